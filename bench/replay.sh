@@ -4,7 +4,8 @@
 # prints the records in a second of each, as the median and as the best of the rounds, and the ratios to the plain loop.
 #
 # The Rattle program of this benchmark stands in this file, and is proved and built in a folder of the moment over the
-# repository's crates, so that the merge gate has nothing to do with it. That takes some minutes the first time.
+# repository's crates, with what was proved of them, so that the merge gate has nothing to do with it. The crates are to be checked before (`rt check` in
+# each, or `.ci/run`).
 #
 # The words: how many rounds there are (9).
 set -eu
@@ -20,8 +21,7 @@ bench="$folder/crates/replay_bench"
 mkdir -p "$bench/src" "$bench/proofs/run" "$bench/proofs/main"
 below="sg_base sg_record sg_bits sg_segment sg_slotted sg_frames sg_ops sg_step sg_action sg_redo"
 for crate in $below; do
-    mkdir "$folder/crates/$crate"
-    (cd "$top/crates/$crate" && cp -r src specs proofs "$folder/crates/$crate")
+    cp -R "$top/crates/$crate" "$folder/crates/"
     grep "^$crate:" "$top/crates.txt" >> "$folder/crates.txt"
 done
 echo "replay_bench may_abort=2: sg_base sg_frames sg_ops sg_record sg_redo sg_segment" >> "$folder/crates.txt"

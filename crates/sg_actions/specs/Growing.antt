@@ -26,7 +26,9 @@ pub image_on : {recovers : Recovering} {t : Table} {first first' : State} {durab
 image_on {recovers} {t} {first} {first'} {durable} {durable'} {log} {log'} {c} e d g h = record {
   front = h.front;
   is_front = record { within = grows_then h.is_front.within g; whole = grows_then d h.is_front.whole };
-  recovers = subst (λ (x : State). recovers c h.front (repeated t x h.front)) e h.recovers;
+  left = h.left;
+  says = h.says;
+  recovers = subst (λ (x : State). recovers c h.left (repeated t x h.front)) e h.recovers;
 }
 
 -- MOMENTS ONE AFTER ANOTHER

@@ -24,3 +24,4 @@ pub mod Notes
 pub mod PuttingBack
 pub mod WentOff
 pub mod Accounted
+pub mod Cutting

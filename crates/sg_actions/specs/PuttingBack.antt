@@ -1,5 +1,5 @@
 -- The undo of a note: the bytes that stood where its changes wrote into bands come back, as changes of who acts.
-use Rattle.std.specs.Prelude.{◌≡◌, ℕ, ◌<◌, false, List, ◌++◌, Option, Some, None, option_map}
+use Rattle.std.specs.Prelude.{◌≡◌, ◌≢◌, ℕ, ◌<◌, ◌≤◌, false, List, ◌++◌, Option, Some, None, option_map}
 use Rattle.sg_alloc.specs.declared.maps.Maps.{Maps}
 use Rattle.sg_ops.specs.Table.{Table}
 use Rattle.sg_action.specs.States.{State}
@@ -119,6 +119,10 @@ pub record HasWay (rs : Steps) (to from : ℕ) : Type 0 where
 pub record CanPutBack (e : EngineSeen) (rows : List Row) (actor : Actor) (to from : ℕ) : Type 0 where
   pub chain : IsChained e.base e.steps e.tail rows actor
   pub way : HasWay e.steps to from
+
+-- who acts is a transaction, and the way back ends no earlier than its begin
+abbrev pub IsOwnWay : Actor → (to : ℕ) → Type 0
+IsOwnWay actor to = (actor.txn.0 ≢ 0) × (actor.txn.0 ≤ to)
 
 -- ALL CHANGES on a way back ARE PUT BACK
 pub record PutAll (outside : ℕ) (t : Table) (e e' : EngineView) (rows : List Row) (actor actor' : Actor) (to from : ℕ) : Type 0 where

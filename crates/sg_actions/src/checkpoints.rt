@@ -1,12 +1,13 @@
 // Checkpoints: where a log is read again from, and the transactions that go on.
-ghost use Rattle.std.specs.Prelude.{◌≡◌, ◌<◌, length, IfSome, IfNone};
+ghost use Rattle.std.specs.Prelude.{◌≡◌, ◌≤◌, ◌<◌, length, take, IfSome, IfNone, IsPermutation};
+ghost use Rattle.std.specs.List.Sorted.{IsNonDecreasingBy};
 ghost use Rattle.sg_actions.specs.Changes.{HasTaken};
 ghost use Rattle.sg_actions.specs.Checkpoints.{row_bytes, rows_bytes};
 
 use crate::acts::count_break;
 use crate::rows::Row;
 use crate::{Acts, Engine};
-use sg_base::write_u64;
+use sg_base::{TxnId, write_u64};
 use sg_space::SpaceFault;
 
 // A row: the transaction's number, and that of its last record.
@@ -16,6 +17,32 @@ fn spell_row(row: &Row, into: &mut [u8])
 {
     write_u64(&mut into[..8], row.txn.0);
     write_u64(&mut into[8..], row.last);
+}
+
+// Puts rows in the order of their transactions' numbers.
+fn order(rows: &mut [Row])
+    ensures same { IsPermutation rows.old rows.new }
+    ensures long { length rows.new ≡ length rows.old }
+    ensures rising { IsNonDecreasingBy (λ r. r.txn.0) rows.new }
+{
+    rows.sort_unstable_by_key(|row| row.txn.0);
+}
+
+// These rows in the order of their transactions' numbers, at the front of 64.
+fn in_order(rows: &[Row]) -> [Row; 64]
+    requires { length rows.now ≤ 64 }
+    ensures same { IsPermutation rows.now (take (length rows.now) result) }
+    ensures rising { IsNonDecreasingBy (λ r. r.txn.0) (take (length rows.now) result) }
+{
+    let vacant = Row {
+        txn: TxnId(0),
+        last: 0,
+    };
+    let mut ordered = [vacant; 64];
+    let count = rows.len();
+    ordered[..count].copy_from_slice(rows);
+    order(&mut ordered[..count]);
+    ordered
 }
 
 // Spells the rows that aren't vacant, 16 bytes each, and answers how many bytes they are, if they fit.
@@ -39,11 +66,12 @@ fn spell_rows(rows: &[Row], into: &mut [u8]) -> Option<usize>
 }
 
 impl<E: Engine> Acts<E> {
-    ghost use Rattle.std.specs.Prelude.{◌≡◌, ◌≤◌, ◌+◌, ℕ, false, OnOk, IfErr, length};
+    ghost use Rattle.std.specs.Prelude.{◌≡◌, ◌≤◌, ◌+◌, ℕ, false, OnOk, IfErr, length, take};
     ghost use Rattle.sg_checkpoints.specs.Checkpoints.{HasMarked};
     ghost use Rattle.sg_ops.specs.Table.{Table};
     ghost use Rattle.sg_action.specs.States.{State};
     ghost use Rattle.sg_actions.specs.Calls.{IsAtRest};
+    ghost use Rattle.sg_actions.specs.Checkpoints.{NamesGoing};
     ghost use Rattle.sg_actions.specs.Counts.{ActsCounts};
     ghost use Rattle.sg_actions.specs.Engine.{Moments, Keeps, IsNearEnd, IsForced, led};
     ghost use Rattle.sg_actions.specs.Led.{HasStayed};
@@ -62,6 +90,8 @@ impl<E: Engine> Acts<E> {
         ensures hands { (E.view self.new.engine).disk.handed ≤ (E.view self.old.engine).disk.handed + E.waiting self.old.engine + 1067 }
         ensures none_waits { OnOk result (E.waiting self.new.engine ≡ 0) }
         ensures marks { OnOk result ((E.view self.old.engine).Told → HasMarked (E.view self.old.engine).tail (E.unwritten self.old.engine) (E.marked self.new.engine) E.ends_at (E.view self.new.engine).disk.now) }
+        // which names the transactions that go on, in the order in which they began
+        ensures names { OnOk result ((E.view self.old.engine).Told → NamesGoing (take 64 self.old.rows.items) (E.names self.new.engine)) }
         ensures means { Keeps (E.means self.old.engine) (E.means self.new.engine) }
         ensures stays { (t : Table) (from : State) → E.means self.old.engine t from → OnOk result (HasStayed (led from (E.view self.old.engine)) (led from (E.view self.new.engine))) }
         ensures forced { (t : Table) (from : State) → E.means self.old.engine t from → OnOk result (IsForced (E.view self.new.engine)) }
@@ -77,7 +107,8 @@ impl<E: Engine> Acts<E> {
     {
         let mut text = [0u8; 1024];
         let count = self.rows.len().min(64);
-        let Some(size) = spell_rows(&self.rows.as_slice()[..count], &mut text) else {
+        let ordered = in_order(&self.rows.as_slice()[..count]);
+        let Some(size) = spell_rows(&ordered[..count], &mut text) else {
             return Err(count_break(&mut self.breaks));
         };
         self.engine.checkpoint(&text[..size])?;

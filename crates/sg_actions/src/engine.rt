@@ -1,7 +1,8 @@
-ghost use Rattle.std.specs.Prelude.{◌≡◌, ◌≤◌, ◌+◌, ◌*◌, ◌/◌, ℕ, ⊤, true, false, is_some, IfOk, OnOk, length, take};
+ghost use Rattle.std.specs.Prelude.{◌≡◌, ◌≤◌, ◌+◌, ◌*◌, ◌/◌, ℕ, ⊤, true, false, is_some, List, [], Option, IfOk, OnOk, length, take};
 ghost use Rattle.sg_base.specs.Sheet.{sheet_of};
 ghost use Rattle.sg_disk.specs.Disk.{Image};
 ghost use Rattle.sg_checkpoints.specs.Checkpoints.{Marks, StaysMarked};
+ghost use Rattle.sg_checkpoints.specs.Cutting.{IsCut};
 ghost use Rattle.sg_ops.specs.Laws.{IsLawful};
 ghost use Rattle.sg_ops.specs.Table.{Table, table_of};
 ghost use Rattle.sg_record.specs.Ranges.{IsRecord};
@@ -9,12 +10,14 @@ ghost use Rattle.sg_actions.specs.Painting.{AreBandsWhole};
 ghost use Rattle.sg_record.specs.Records.{spelled};
 ghost use Rattle.sg_record.specs.Records.Says.{Begin, Checkpoint};
 ghost use Rattle.sg_record.specs.Shown.{shown, by};
+ghost use Rattle.sg_recovery.specs.Log.{tally};
 ghost use Rattle.sg_action.specs.States.{State};
+ghost use Rattle.sg_actions.specs.Cutting.{IsOldest, HasWanted};
 ghost use Rattle.sg_actions.specs.Images.{Grows, Recovering};
 ghost use Rattle.sg_actions.specs.Handing.{makes_change, HandsOver};
 ghost use Rattle.sg_actions.specs.Engine.{EngineSeen, led, Keeps, AreBy, AllOn, HasPage, EngineGrows, EngineRests, CanLog, Logs, EngineLooks, IsForced, StandsNow, LookedAt, LookedAtBand, HasStep, ReadsStep, ArePagesFit, now_of};
 
-use sg_base::{BAND_SIZE, BandNo, Lsn, PageNo, SlotView};
+use sg_base::{BAND_SIZE, BandNo, Lsn, PageNo, SlotView, TxnId};
 use sg_ops::Ops;
 use sg_record::Rec;
 use sg_space::SpaceFault;
@@ -50,6 +53,15 @@ pub trait Engine {
     /// The number of the first byte that the log still has.
     ghost first_byte: { Self → ℕ };
 
+    /// The number of the byte behind the log's first frame.
+    ghost first_frame_end: { Self → ℕ };
+
+    /// The number of the log's last checkpoint, durable or not.
+    ghost last_checkpoint: { Self → Option ℕ };
+
+    /// The superblock can't be renewed any more: hardly any of its numbers is left.
+    ghost is_spent: { Self → Type 0 };
+
     /// How many bytes wait at the log's end to be handed to the disk: records, and the head of their frame.
     ghost waiting: { Self → ℕ };
 
@@ -58,6 +70,9 @@ pub trait Engine {
 
     /// So is the last record of an image's log.
     ghost ends_at: { Image → (lsn estimate : ℕ) → Type 0 };
+
+    /// The log's last record, durable or not, is a checkpoint with these transactions that go on, 16 bytes each.
+    ghost names: { Self → List ℕ → Type 0 };
 
     /// No record from now on has a number below this.
     fn tail(&self) -> Lsn
@@ -106,6 +121,7 @@ pub trait Engine {
         ensures hands { HandsOver 0 (view self.old).disk.handed (waiting self.old) (view self.new).disk.handed (waiting self.new) result }
         ensures none_waits { OnOk result (waiting self.new ≡ 0) }
         ensures marked { OnOk result ((view self.old).Told → StaysMarked (marked self.old) (marked self.new) ends_at (view self.new).disk.now) }
+        ensures names { OnOk result ((view self.old).Told → (live : List ℕ) → names self.old live → names self.new live) }
         ensures means { Keeps (means self.old) (means self.new) }
         ensures looks { (t : Table) (from : State) → means self.old t from → EngineLooks (recovers t) t (led from (view self.old)) (led from (view self.new)) result }
         ensures forced { (t : Table) (from : State) → means self.old t from → OnOk result (IsForced (view self.new)) };
@@ -114,10 +130,24 @@ pub trait Engine {
     fn flush(&mut self) -> Result<(), SpaceFault>
         ensures written { OnOk result ((lsn : ℕ) → unwritten self.new lsn → ⊥) }
         ensures marked { OnOk result ((view self.old).Told → StaysMarked (marked self.old) (marked self.new) ends_at (view self.new).disk.now) }
+        ensures names { OnOk result ((view self.old).Told → (live : List ℕ) → names self.old live → names self.new live) }
         ensures rests { EngineRests (view self.old) (view self.new) result }
         ensures means { Keeps (means self.old) (means self.new) }
         ensures looks { (t : Table) (from : State) → means self.old t from → EngineLooks (recovers t) t (led from (view self.old)) (led from (view self.new)) result }
         ensures forced { (t : Table) (from : State) → means self.old t from → OnOk result (IsForced (view self.new)) };
+
+    /// Makes all records durable, and cuts off the log's front: the frames before the one that holds the least of the changes that
+    /// aren't on the disk yet, the begin of `oldest`, which is the transaction that goes on and began first, and the log's last
+    /// checkpoint. Nothing is cut where the log has no checkpoint, where that isn't behind the first byte that the log still has, or
+    /// where the superblock can't be renewed. No action is open.
+    fn truncate(&mut self, oldest: Option<TxnId>) -> Result<(), SpaceFault>
+        requires idle { (view self.old).Told → (tally (view self.old).steps).opened ≡ [] }
+        requires oldest { (view self.old).Told → IsOldest oldest (tally (view self.old).steps).live }
+        ensures rests { EngineRests (view self.old) (view self.new) result }
+        ensures means { Keeps (means self.old) (means self.new) }
+        ensures looks { (t : Table) (from : State) → means self.old t from → EngineLooks (recovers t) t (led from (view self.old)) (led from (view self.new)) result }
+        ensures forced { (t : Table) (from : State) → means self.old t from → OnOk result (IsForced (view self.new)) }
+        ensures cuts { OnOk result ((view self.old).Told → IsCut (unwritten self.old) oldest (last_checkpoint self.old) (is_spent self.old) (first_byte self.old) (first_byte self.new) (first_frame_end self.new)) };
 
     /// Nothing more is asked of it: it tells no more, and no later call is one of the disk.
     fn stop(&mut self)
@@ -141,6 +171,7 @@ pub trait Engine {
         ensures grows { EngineGrows (view self.old) (view self.new) (by 0 0 (Checkpoint 0 live.now)) result }
         ensures hands { HandsOver (length (spelled (by 0 0 (Checkpoint 0 live.now)))) (view self.old).disk.handed (waiting self.old) (view self.new).disk.handed (waiting self.new) result }
         ensures marks { IfOk result (λ lsn. (view self.old).Told → Marks (unwritten self.old) (marked self.new) lsn) }
+        ensures names { OnOk result ((view self.old).Told → names self.new live.now) }
         ensures means { Keeps (means self.old) (means self.new) }
         ensures looks { (t : Table) (from : State) → means self.old t from → EngineLooks (recovers t) t (led from (view self.old)) (led from (view self.new)) result };
 
@@ -178,10 +209,11 @@ pub trait Engine {
         ensures looked { LookedAtBand (view self.now) b.0 result.now }
         ensures size { length result.now ≡ BAND_SIZE };
 
-    /// Reads the record with this number to the front of a buffer of at least 16,417 bytes, and answers
+    /// Reads the record with this number, which the log still has, to the front of a buffer of at least 16,417 bytes, and answers
     /// how many bytes it has.
     fn read(&mut self, at: Lsn, into: &mut [u8]) -> Result<usize, SpaceFault>
         requires there { HasStep (view self.old) at }
+        requires kept { (view self.old).Told → first_byte self.old ≤ at }
         requires room { 16417 ≤ length into.old }
         ensures rests { EngineRests (view self.old) (view self.new) result }
         ensures means { Keeps (means self.old) (means self.new) }
@@ -203,6 +235,9 @@ pub trait Engine {
 
     /// Each change that was appended is of a page or a band that there is.
     ghost changes_on: { (s : Self) → (view s).Told → AllOn (view s).extent (view s).steps };
+
+    /// Of a transaction that goes on, and of an action that has no end, it still has all records.
+    ghost wanted: { (s : Self) → (view s).Told → HasWanted (first_byte s) (view s).steps };
 
     /// What is durable is a front of what was appended.
     ghost durable_first: { (s : Self) → (view s).Told → Grows (view s).durable (view s).steps };

@@ -11,11 +11,14 @@ use sg_space::{SpaceFault, UndoNote};
 use std::snapshot::Snapshot;
 
 impl<E: Engine> Acts<E> {
-    ghost use Rattle.std.specs.Prelude.{◌≡◌, ◌≤◌, ◌<◌, ℕ, true, false, length, IfOk, OnOk};
+    ghost use Rattle.std.specs.Prelude.{◌≡◌, ◌≤◌, ◌<◌, ℕ, true, false, [], length, IfOk, OnOk};
     ghost use Rattle.sg_checkpoints.specs.Checkpoints.{StaysMarked};
+    ghost use Rattle.sg_checkpoints.specs.Cutting.{IsCut};
     ghost use Rattle.sg_ops.specs.Table.{Table};
     ghost use Rattle.sg_action.specs.States.{State};
+    ghost use Rattle.sg_recovery.specs.Log.{tally};
     ghost use Rattle.sg_actions.specs.Acting.{HasChain};
+    ghost use Rattle.sg_actions.specs.Cutting.{IsOldest};
     ghost use Rattle.sg_actions.specs.Engine.{EngineCounts, EngineRests, EngineLooks, IsForced, Keeps, led};
     ghost use Rattle.sg_actions.specs.Calls.{Appends, CanBegin, Begun, CanAct, NowActs, CanEnd, ActionEnded};
     ghost use Rattle.sg_actions.specs.View.{IsKept, Since};
@@ -54,6 +57,31 @@ impl<E: Engine> Acts<E> {
         ensures breaks { self.new.breaks ≡ self.old.breaks }
     {
         self.engine.flush()?;
+        Ok(())
+    }
+
+    /// Makes the log durable, and cuts off its front what neither redo nor undo wants any more, where `oldest` is the transaction
+    /// that goes on and began first. No action is open. What is kept begins with the frame that holds the least of the changes
+    /// that aren't on the disk yet, the begin of `oldest` and the last checkpoint; without a checkpoint nothing is cut.
+    pub fn truncate(&mut self, oldest: Option<TxnId>) -> Result<(), SpaceFault>
+        requires idle { (E.view self.old.engine).Told → (tally (E.view self.old.engine).steps).opened ≡ [] }
+        requires oldest { (E.view self.old.engine).Told → IsOldest oldest (tally (E.view self.old.engine).steps).live }
+        ensures rests { EngineRests (E.view self.old.engine) (E.view self.new.engine) result }
+        ensures means { Keeps (E.means self.old.engine) (E.means self.new.engine) }
+        ensures looks { (t : Table) (from : State) → E.means self.old.engine t from → EngineLooks (E.recovers t) t (led from (E.view self.old.engine)) (led from (E.view self.new.engine)) result }
+        ensures forced { OnOk result (IsForced (E.view self.new.engine)) }
+        ensures cuts { OnOk result ((E.view self.old.engine).Told → IsCut (E.unwritten self.old.engine) oldest (E.last_checkpoint self.old.engine) (E.is_spent self.old.engine) (E.first_byte self.old.engine) (E.first_byte self.new.engine) (E.first_frame_end self.new.engine)) }
+        ensures kept { (limits : State → ℕ → ℕ) (t : Table) (from : State) → E.means self.old.engine t from → OnOk result ((E.view self.old.engine).Told → IsKept t limits (led from (E.view self.old.engine)) self.old.maps self.old.rows.items self.old.actor →
+            IsKept t limits (led from (E.view self.new.engine)) self.new.maps self.new.rows.items self.new.actor) }
+        ensures maps { self.new.maps ≡ self.old.maps }
+        ensures unfreed { self.new.unfreed ≡ self.old.unfreed }
+        ensures rows { self.new.rows.items ≡ self.old.rows.items }
+        ensures actor { self.new.actor ≡ self.old.actor }
+        ensures begun { self.new.begun ≡ self.old.begun }
+        ensures begun_at { self.new.begun_at ≡ self.old.begun_at }
+        ensures breaks { self.new.breaks ≡ self.old.breaks }
+    {
+        self.engine.truncate(oldest)?;
         Ok(())
     }
 

@@ -126,14 +126,14 @@ fn is_of_bytes(note: &[u8]) -> bool
 }
 
 impl<E: Engine> Acts<E> {
-    ghost use Rattle.std.specs.Prelude.{◌≡◌, ◌<◌, ◌||◌, ℕ, true, false, length, is_some, IsSome, IfOk, IfErr, OnOk};
+    ghost use Rattle.std.specs.Prelude.{◌≡◌, ◌<◌, ◌≤◌, ◌||◌, ℕ, true, false, length, is_some, IsSome, IfOk, IfErr, OnOk};
     ghost use Rattle.sg_alloc.specs.Flags.{map_bands_of};
     ghost use Rattle.sg_ops.specs.Table.{Table};
     ghost use Rattle.sg_space.specs.Bands.{IsPiece};
     ghost use Rattle.sg_action.specs.States.{State};
     ghost use Rattle.sg_actions.specs.Later.{acts_at, Later};
     ghost use Rattle.sg_actions.specs.Led.{HasStayed};
-    ghost use Rattle.sg_actions.specs.PuttingBack.{HasHop, PutBytes, PutOne, CanPutBack, PutAll, UndoStepped, MayUndo};
+    ghost use Rattle.sg_actions.specs.PuttingBack.{HasHop, IsOwnWay, PutBytes, PutOne, CanPutBack, PutAll, UndoStepped, MayUndo};
     ghost use Rattle.sg_recovery.specs.Log.Record.{CompEnd};
     ghost use Rattle.sg_actions.specs.Acting.{HasChain};
     ghost use Rattle.sg_actions.specs.Calls.{Appends};
@@ -146,6 +146,7 @@ impl<E: Engine> Acts<E> {
     // Looks at a record on the way back of an undo. The bytes of a note are handed out.
     fn look_back(&mut self, at: Lsn, into: &mut UndoNote) -> Result<Seen, SpaceFault>
         requires there { HasStep (E.view self.old.engine) at }
+        requires kept { (E.view self.old.engine).Told → E.first_byte self.old.engine ≤ at }
         ensures counts { ActsCounts (E.view self.old.engine) (E.view self.new.engine) self.old.breaks self.new.breaks result }
         ensures only_disk { IfErr result (λ f. f ≡ SpaceFault.Disk) }
         ensures means { Keeps (E.means self.old.engine) (E.means self.new.engine) }
@@ -279,6 +280,7 @@ impl<E: Engine> Acts<E> {
     // way back over its action goes on.
     fn put_one_back(&mut self, at: Lsn) -> Result<Lsn, SpaceFault>
         requires hop { (E.view self.old.engine).Told → HasHop (E.view self.old.engine).steps at }
+        requires kept { (E.view self.old.engine).Told → E.first_byte self.old.engine ≤ at }
         requires begun { self.old.begun ≡ true }
         ensures lower { IfOk result (λ next. next < at) }
         ensures counts { ActsCounts (E.view self.old.engine) (E.view self.new.engine) self.old.breaks self.new.breaks result }
@@ -315,6 +317,7 @@ impl<E: Engine> Acts<E> {
     // Puts the bytes back of all changes on a way back over an action, those of the last one first.
     fn put_back(&mut self, from: Lsn, to: Lsn) -> Result<(), SpaceFault>
         requires can { (E.view self.old.engine).Told → ∥ CanPutBack (E.view self.old.engine) self.old.rows.items self.old.actor to from ∥₁ }
+        requires own { (E.view self.old.engine).Told → IsOwnWay self.old.actor to }
         requires begun { self.old.begun ≡ true }
         ensures counts { ActsCounts (E.view self.old.engine) (E.view self.new.engine) self.old.breaks self.new.breaks result }
         ensures means { Keeps (E.means self.old.engine) (E.means self.new.engine) }

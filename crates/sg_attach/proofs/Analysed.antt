@@ -54,6 +54,9 @@ module _ (t : Table) (c : Image) (s : Super) (a : code.Analysis) (accepted : IsA
   pub log_losers : a.losers ≡ losers_of rs
   log_losers = ap (λ (x : Analysis). x.losers) is.says ∙ ap losers_of are_steps
 
+  pub log_last : a.last_checkpoint ≡ option_map (λ k. k.0) (sights.last_checkpoint (records_in o c))
+  log_last = ap (λ (x : Analysis). x.last_checkpoint) is.says ∙ ap (λ (l : List Numbered). option_map (λ k. k.0) (sights.last_checkpoint l)) (sym found)
+
   pub log_unfinished : option_map (λ p. (p.0.0, p.1)) a.unfinished ≡ unfinished_of rs
   log_unfinished = ap (λ (x : Analysis). x.unfinished) is.says ∙ ap unfinished_of are_steps
 

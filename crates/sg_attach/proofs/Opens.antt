@@ -28,7 +28,7 @@ use Rattle.sg_reopen.specs.Again.{image_home, StandsAgain}
 use Rattle.sg_reopen.proofs.Again.{image_opens}
 use Rattle.sg_reopen.proofs.OpenedOver.{own_point}
 use Rattle.sg_reopen.proofs.Points.{point_within}
-use Rattle.sg_actions.specs.Images.{Grows, IsImageOf}
+use Rattle.sg_actions.specs.Images.{Grows}
 use Rattle.sg_actions.specs.Steps.{Steps, repeated}
 use Rattle.sg_phys_laws.specs.Formed.{AreFormed}
 use Rattle.sg_phys_laws.specs.Known.{IsEnough, AllEnough}
@@ -36,6 +36,7 @@ use Rattle.sg_phys_laws.specs.Poised.{AreSaid, IsPoised}
 use Rattle.sg_phys_laws.specs.Points.{AreMarked}
 use Rattle.sg_phys_laws.specs.Recovers.{cut_at, origin_of, records_in, point_in, IsSoundImage, Recovers, StandsOwn}
 use Rattle.sg_phys_laws.specs.States.{state_of, steps_of, AllAgree}
+use Rattle.sg_phys_laws.specs.Whole.{IsWholeImageOf}
 use Rattle.sg_phys_laws.proofs.Agreeing.{all_agree_none}
 use Rattle.sg_phys_laws.proofs.Cutting.{cut_same}
 use Rattle.sg_phys_laws.proofs.Enough.{all_enough_none}
@@ -166,7 +167,7 @@ standing_image t from durable log v m s c stands =
 -- a truncated fact of an image is one
 store_image_fix : (t : Table) (from : State) (durable log : Steps) (c : Image) → ∥ IsStoreImage t from durable log c ∥₁ → IsStoreImage t from durable log c
 store_image_fix t from durable log c h =
-    let m : IsImageOf (Recovers t (origin_of t c)) t from durable log c = image_fix (origin_of t c) t from durable log c (∥∥₁_elim h ∥∥₁_prop (λ n. ∣ record { front = n.front; is_front = n.is_front; recovers = n.recovers.holds } ∣₁)) in
+    let m : IsWholeImageOf (Recovers t (origin_of t c)) t from durable log c = image_fix (origin_of t c) t from durable log c (∥∥₁_elim h ∥∥₁_prop (λ n. ∣ record { front = n.front; is_front = n.is_front; recovers = n.recovers.holds } ∣₁)) in
     record { front = m.front; is_front = m.is_front; recovers = record { holds = m.recovers; leads = (from, refl) } }
 
 -- EACH IMAGE OF EACH MOMENT of opening, from its syncs on,

@@ -8,14 +8,14 @@ use Rattle.sg_ops.specs.Table.{Table}
 use Rattle.sg_analysis.specs.Analysis.{acting, lacks_end, with_last}
 use Rattle.sg_action.specs.States.{State}
 use Rattle.sg_actions.specs.Engine.{Extent}
-use Rattle.sg_actions.specs.Images.{IsImageOf}
 use Rattle.sg_actions.specs.Steps.{Steps}
 use Rattle.sg_phys_laws.specs.Recovers.{RecoversBy}
+use Rattle.sg_phys_laws.specs.Whole.{IsWholeImageOf}
 
--- AN IMAGE OF A STORE whose steps lead from these pages and bands: it holds a front of these steps with all that were durable, is sound for
--- it, and comes to what it makes of them
+-- AN IMAGE OF A STORE whose steps lead from these pages and bands: it holds all of a front of these steps with all that were durable, is sound
+-- for it, and comes to what it makes of them. Each image is one of the steps of its own log
 abbrev pub IsStoreImage : Table → (from : State) → (durable log : Steps) → Image → Type 0
-IsStoreImage t from durable log c = IsImageOf (RecoversBy t) t from durable log c
+IsStoreImage t from durable log c = IsWholeImageOf (RecoversBy t) t from durable log c
 
 -- and one of some such store
 abbrev pub IsSomeStoreImage : Table → Image → Type 0

@@ -73,7 +73,7 @@ pub fn attach<D: Presumed, L: Ledger>(
     ensures base { IfOk result (λ made. (seen D.told D.presumed D.view made.pages).base ≡ (super_in (reads (D.view disk))).base) }
     ensures formed { IsTrue D.told → D.presumed → IfOk result (λ made. IsLog (seen D.told D.presumed D.view made.pages).base (seen D.told D.presumed D.view made.pages).steps) }
     ensures below { IsTrue D.told → D.presumed → IfOk result (λ made. next_lsn (seen D.told D.presumed D.view made.pages).steps ≤ (seen D.told D.presumed D.view made.pages).tail) }
-    ensures first_byte { IsTrue D.told → D.presumed → IfOk result (λ made. (seen D.told D.presumed D.view made.pages).base ≡ made.pages.engine.log.base) }
+    ensures first_byte { IsTrue D.told → D.presumed → IfOk result (λ made. (seen D.told D.presumed D.view made.pages).base ≡ made.pages.superblock.base) }
     ensures based { IsTrue D.told → D.presumed → IfOk result (λ made. (seen D.told D.presumed D.view made.pages).base ≤ (seen D.told D.presumed D.view made.pages).tail) }
     ensures losers { IsTrue D.told → D.presumed → IfOk result (λ made. made.analysis.losers ≡ losers_of (seen D.told D.presumed D.view made.pages).steps) }
     ensures unfinished { IsTrue D.told → D.presumed → IfOk result (λ made. option_map (λ p. (p.0.0, p.1)) made.analysis.unfinished ≡ unfinished_of (seen D.told D.presumed D.view made.pages).steps) }
@@ -121,7 +121,7 @@ pub fn attach<D: Presumed, L: Ledger>(
             },
         ) => {
             let engine = Engine::of_parts(disk, log, pool);
-            let pages = Phys::new(alloc, engine, found);
+            let pages = Phys::new(alloc, engine, found, geometry, analysis.last_checkpoint);
             Ok(AttachedStore {
                 pages,
                 geometry,

@@ -114,6 +114,7 @@ stop_full tail before now s (l ∷ lines) (a ∷ answers) h e = ⊎_elim (by_tro
     by_line : (line : Line) → causes.IsFullFor tail tail line → causes.stop_at_end s line ≡ Some stops.LogEnd → (s ≡ Some stops.LogEnd) ⊎ IsAtEnd tail
     by_line (OfStore upkeeps.Flush) full is = inl is
     by_line (OfStore upkeeps.Checkpoint) full is = inr full
+    by_line (OfStore upkeeps.Truncate) full is = inl is
     by_line (Other Blank) full is = inl is
     by_line (Other Wrong) full is = inl is
     by_line (Other (Of name Begin)) full is = inl is
@@ -133,6 +134,7 @@ full_shown : (log_end tail : ℕ) (v w : disk.View) (line : Line) → TailIsShow
 full_shown log_end tail v w line (inl counted) full = inl counted
 full_shown log_end tail v w (OfStore upkeeps.Flush) (inr shown) full = absurd full
 full_shown log_end tail v w (OfStore upkeeps.Checkpoint) (inr shown) full = inr (omega (arith, shown, full))
+full_shown log_end tail v w (OfStore upkeeps.Truncate) (inr shown) full = absurd full
 full_shown log_end tail v w (Other Blank) (inr shown) full = absurd full
 full_shown log_end tail v w (Other Wrong) (inr shown) full = absurd full
 full_shown log_end tail v w (Other (Of name Begin)) (inr shown) full = inr (omega (arith, shown, full))

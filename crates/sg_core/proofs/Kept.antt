@@ -1,16 +1,17 @@
 -- What each change of the slab makes of the live transactions, and that it keeps what is known of it.
 use Rattle.std.proofs.Common.{◌≡◌, ℕ, zero, suc, get_or, ◌+◌, ◌-◌, ◌<◌, ◌≤◌, Bool, true, false, cond, not, List, [], ◌∷◌, ◌++◌, map, length, set, Option, Some, None, refl, sym, ap, ◌∙◌, subst, arith, length-append}
-use Rattle.std.specs.Prelude.{◌||◌, ◌&&◌, nat_lt, All, is_some, IfSome, IfNone}
-use Rattle.std.specs.List.{list_any}
+use Rattle.std.specs.Prelude.{◌||◌, ◌&&◌, ◌==◌, nat_lt, slice_get, All, is_some, IfSome, IfNone}
+use Rattle.std.specs.List.{list_any, find}
 use Rattle.std.proofs.lemmas.Bool.{eq-eqb, ltb-true}
 use Rattle.std.proofs.lemmas.List.{length-map}
 use Rattle.std.proofs.lemmas.List.Sums.{sum_by-cons, sum_by-append, length-filter, count_by-le-length}
+use Rattle.sg_serial.specs.Runs.{nth_mark}
 use Rattle.slab.specs.Slab.{Slab, get, Updates, with_value}
 use Rattle.sg_core.specs.declared.txns.Live.{Live}
-use Rattle.sg_core.specs.Live.{Txn, is_of, is_live, without, has_reserved, has_dropped}
-use Rattle.sg_core.specs.Order.{in_order}
-use Rattle.sg_core.specs.Slots.{shown, live_of, AreDistinct, IsKept, HasAt}
-use Rattle.sg_core.proofs.Order.{is_late, ordered_any, ordered_last, ordered_filter, ordered_map, ordered_length}
+use Rattle.sg_core.specs.Live.{Txn, is_of, is_live, without, has_reserved, has_dropped, one_less, marks_of, marks_in, with_marks}
+use Rattle.sg_core.specs.Order.{in_order, placed}
+use Rattle.sg_core.specs.Slots.{shown, live_of, AreDistinct, IsKept, HasAt, kept_marks}
+use Rattle.sg_core.proofs.Order.{is_late, first_false, ordered_any, ordered_last, ordered_filter, ordered_map, ordered_length}
 use Rattle.sg_core.proofs.Slots.{added, IsAdded, in_live, is_other, live-removed, live-replaced, sum-changed, sum_of, distinct-added, distinct-filter, distinct-map, none_late}
 
 -- the list of those that are live
@@ -129,16 +130,11 @@ none_here p (None ∷ rest) (suc key) l there distinct none = none_here p rest k
 none_here p (Some a ∷ rest) (suc key) l there distinct none =
     ap (λ b. (b && p (shown a)) || list_any (λ x. is_of l.transaction.0 x && p x) (live_of rest)) (is_other rest a l key distinct.0 there) ∙ none_here p rest key l there distinct.1 none
 
-pub some_reserved : (live : Slab Live) (t key : ℕ) (l : Live) → HasAt live t key l → AreDistinct (live_of live.slots) → has_reserved (list_of live) t ≡ true → 1 ≤ l.reserved
-some_reserved live t key l at distinct has = go (nat_lt 0 l.reserved) refl
-  where
-    go : (b : Bool) → nat_lt 0 l.reserved ≡ b → 1 ≤ l.reserved
-    go true e = ltb-true 0 l.reserved e
-    go false e =
-        let none = none_here (λ x. nat_lt 0 x.reserved) live.slots key l at.entry_is distinct e in
-        let here : has_reserved (live_of live.slots) t ≡ false = ap (λ n. has_reserved (live_of live.slots) n) (sym at.number_is) ∙ none in
-        let same = ordered_any (λ x. is_of t x && nat_lt 0 x.reserved) (live_of live.slots) in
-        absurd (cc)
+-- an entry with one less reserved, if any was
+pub one_given : (l next : Live) (t : ℕ) → l.transaction.0 ≡ t → next.transaction.0 ≡ t → next.reserved ≡ l.reserved - 1 → next.dropped ≡ l.dropped → next.marks ≡ l.marks → shown next ≡ one_less (shown l)
+one_given l next t own other reserved dropped marks =
+    let same : next.transaction.0 ≡ l.transaction.0 = other ∙ sym own in
+    let places : kept_marks next.marks ≡ kept_marks l.marks = ap kept_marks marks in cc
 
 -- whether a transaction has dropped something, by its entry
 pub dropped_is : (live : Slab Live) (t key : ℕ) (l : Live) → HasAt live t key l → AreDistinct (live_of live.slots) → has_dropped (list_of live) t ≡ l.dropped
@@ -150,3 +146,63 @@ dropped_is live t key l at distinct = ordered_any (λ x. is_of t x && x.dropped)
 
 pub none_dropped : (live : Slab Live) (t : ℕ) → list_any (is_of t) (live_of live.slots) ≡ false → has_dropped (list_of live) t ≡ false
 none_dropped live t absent = ordered_any (λ x. is_of t x && x.dropped) (live_of live.slots) ∙ none_with (λ x. x.dropped) t (live_of live.slots) absent
+
+-- no transaction that passes is found where none does
+find_none : (p : Txn → Bool) (xs : List Txn) → list_any p xs ≡ false → find p xs ≡ None
+find_none p [] h = refl
+find_none p (x ∷ xs) h = go (p x) h (find_none p xs)
+  where
+    go : (b : Bool) → (b || list_any p xs) ≡ false → (list_any p xs ≡ false → find p xs ≡ None) → cond b (Some x) (find p xs) ≡ None
+    go true h rest = absurd (cc)
+    go false h rest = rest h
+
+-- one that passes is found at its place, where no other does
+find_placed : (p : Txn → Bool) (x : Txn) (ys : List Txn) → p x ≡ true → list_any p ys ≡ false → find p (placed x ys) ≡ Some x
+find_placed p x [] here none = ap (λ b. cond b (Some x) None) here
+find_placed p x (y ∷ ys) here none = go (nat_lt y.transaction x.transaction) (p y) none (find_placed p x ys here)
+  where
+    go : (b c : Bool) → (c || list_any p ys) ≡ false → (list_any p ys ≡ false → find p (placed x ys) ≡ Some x) → find p (cond b (y ∷ placed x ys) (x ∷ y ∷ ys)) ≡ Some x
+    go b true n rest = absurd (cc)
+    go true false n rest = ap (λ c. cond c (Some y) (find p (placed x ys))) (first_false (p y) (list_any p ys) none) ∙ rest n
+    go false false n rest = ap (λ c. cond c (Some x) (find p (y ∷ ys))) here
+
+-- and one that doesn't pass is passed by
+find_other : (p : Txn → Bool) (x : Txn) (ys : List Txn) → p x ≡ false → find p (placed x ys) ≡ find p ys
+find_other p x [] other = ap (λ b. cond b (Some x) None) other
+find_other p x (y ∷ ys) other = go (nat_lt y.transaction x.transaction) (find_other p x ys other)
+  where
+    go : (b : Bool) → find p (placed x ys) ≡ find p ys → find p (cond b (y ∷ placed x ys) (x ∷ y ∷ ys)) ≡ find p (y ∷ ys)
+    go true rest = ap (λ r. cond (p y) (Some y) r) rest
+    go false rest = ap (λ b. cond b (Some x) (find p (y ∷ ys))) other
+
+found_at : (slots : List (Option Live)) (key : ℕ) (l : Live) → get_or slots key None ≡ Some l → AreDistinct (live_of slots) → find (is_of l.transaction.0) (in_order (live_of slots)) ≡ Some (shown l)
+found_at [] key l there distinct = absurd (cc)
+found_at (None ∷ rest) zero l there distinct = absurd (cc)
+found_at (Some a ∷ rest) zero l there distinct =
+    let q : a ≡ l = cc in
+    let alone : list_any (is_of l.transaction.0) (live_of rest) ≡ false = ap (λ (b : Live). list_any (is_of b.transaction.0) (live_of rest)) (sym q) ∙ distinct.0 in
+    find_placed (is_of l.transaction.0) (shown a) (in_order (live_of rest)) (eq-eqb a.transaction.0 l.transaction.0 (ap (λ (b : Live). b.transaction.0) q)) (ordered_any (is_of l.transaction.0) (live_of rest) ∙ alone)
+    ∙ ap (λ (b : Live). Some (shown b)) q
+found_at (None ∷ rest) (suc key) l there distinct = found_at rest key l there distinct
+found_at (Some a ∷ rest) (suc key) l there distinct =
+    find_other (is_of l.transaction.0) (shown a) (in_order (live_of rest)) (is_other rest a l key distinct.0 there) ∙ found_at rest key l there distinct.1
+
+-- the marks of a transaction are those of its entry, and none where it has no entry
+pub marks_here : (live : Slab Live) (t key : ℕ) (l : Live) → HasAt live t key l → AreDistinct (live_of live.slots) → marks_of (list_of live) t ≡ kept_marks l.marks
+marks_here live t key l at distinct =
+    ap marks_in (ap (λ n. find (is_of n) (list_of live)) (sym at.number_is) ∙ found_at live.slots key l at.entry_is distinct)
+
+pub marks_none : (live : Slab Live) (t : ℕ) → list_any (is_of t) (live_of live.slots) ≡ false → marks_of (list_of live) t ≡ []
+marks_none live t absent = ap marks_in (find_none (is_of t) (list_of live) (ordered_any (is_of t) (live_of live.slots) ∙ absent))
+
+-- an entry with other marks
+pub remarked : (l next : Live) (t : ℕ) (f : List ℕ → List ℕ) → l.transaction.0 ≡ t → next.transaction.0 ≡ t → next.reserved ≡ l.reserved → next.dropped ≡ l.dropped → kept_marks next.marks ≡ f (kept_marks l.marks) → shown next ≡ with_marks f (shown l)
+remarked l next t f own other reserved dropped marks =
+    let same : next.transaction.0 ≡ l.transaction.0 = other ∙ sym own in cc
+
+pub nth_none : (number : ℕ) → None ≡ nth_mark {A = ℕ} number []
+nth_none number = go (number == 0)
+  where
+    go : (b : Bool) → None ≡ cond {A = Option ℕ} b None (slice_get [] (number - 1))
+    go true = refl
+    go false = refl

@@ -55,7 +55,7 @@ module _ (f : Txn → ℕ) where
   ordered_sum [] = refl
   ordered_sum (x ∷ xs) = placed_sum x (in_order xs) ∙ (ap (λ n. f x + n) (ordered_sum xs) ∙ sym (sum_by-cons f x xs))
 
-first_false : (a b : Bool) → (a || b) ≡ false → a ≡ false
+pub first_false : (a b : Bool) → (a || b) ≡ false → a ≡ false
 first_false true b h = h
 first_false false b h = refl
 

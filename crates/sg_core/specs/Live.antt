@@ -1,6 +1,6 @@
 -- The live transactions, as a list in the order of their numbers.
-use Rattle.std.specs.Prelude.{ℕ, ◌+◌, ◌-◌, Bool, true, false, not, ◌==◌, ◌&&◌, nat_lt, if◌then◌else◌, List, [], map}
-use Rattle.std.specs.List.{filter, list_any}
+use Rattle.std.specs.Prelude.{ℕ, ◌+◌, ◌-◌, Bool, true, false, not, ◌==◌, ◌&&◌, nat_lt, if◌then◌else◌, List, [], map, Option, Some, None}
+use Rattle.std.specs.List.{filter, list_any, find}
 use Rattle.sg_base.specs.declared.numbers.TxnId.{TxnId}
 
 -- a live transaction: its number, how much it has reserved, whether it has dropped something, and the log's numbers at its marks
@@ -52,6 +52,21 @@ a_dropper x = record x { dropped = true }
 
 abbrev pub dropping : ℕ → List Txn → List Txn
 dropping t xs = map (λ x. if is_of t x then a_dropper x else x) xs
+
+-- the marks of a live transaction
+abbrev pub marks_in : Option Txn → List ℕ
+marks_in None = []
+marks_in (Some x) = x.marks
+
+abbrev pub marks_of : List Txn → ℕ → List ℕ
+marks_of xs t = marks_in (find (is_of t) xs)
+
+-- the same ones, of which this one has other marks
+abbrev pub with_marks : (List ℕ → List ℕ) → Txn → Txn
+with_marks f x = record x { marks = f x.marks }
+
+abbrev pub remarking : ℕ → (List ℕ → List ℕ) → List Txn → List Txn
+remarking t f xs = map (λ x. if is_of t x then with_marks f x else x) xs
 
 abbrev pub number_of : Txn → TxnId
 number_of x = record { 0 = x.transaction }

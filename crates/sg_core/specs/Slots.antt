@@ -1,13 +1,17 @@
 -- The live transactions as they stand in the slots of a slab.
-use Rattle.std.specs.Prelude.{◌≡◌, ℕ, ◌≤◌, false, List, [], ◌∷◌, length, Option, Some, None, sum_by}
+use Rattle.std.specs.Prelude.{◌≡◌, ℕ, ◌≤◌, false, List, [], ◌∷◌, length, take, Option, Some, None, sum_by}
 use Rattle.std.specs.List.{list_any}
 use Rattle.slab.specs.Slab.{Slab, get}
+use Rattle.sg_core.specs.declared.marks.Marks.{Marks}
 use Rattle.sg_core.specs.declared.txns.Live.{Live}
 use Rattle.sg_core.specs.Live.{Txn, is_of}
 
--- marks aren't kept yet
+-- the marks are the first so many of their places
+abbrev pub kept_marks : Marks → List ℕ
+kept_marks m = take m.count m.at
+
 abbrev pub shown : Live → Txn
-shown l = record { transaction = l.transaction.0; reserved = l.reserved; dropped = l.dropped; marks = [] }
+shown l = record { transaction = l.transaction.0; reserved = l.reserved; dropped = l.dropped; marks = kept_marks l.marks }
 
 abbrev pub live_of : List (Option Live) → List Txn
 live_of [] = []

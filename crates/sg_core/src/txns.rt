@@ -1,13 +1,15 @@
-ghost use Rattle.std.specs.Prelude.{◌≡◌, ◌+◌, ◌-◌, ◌*◌, ◌^◌, ◌<◌, [], ◌∷◌, ◌++◌, Some, length, false, All, IfOk, IfSome, IfNone, IsSome, IsTrue, sum_by, slice_get, nat_lt, cond, ◌==◌, Option, ◌||◌, ℕ};
+ghost use Rattle.std.specs.Prelude.{◌≡◌, ◌+◌, ◌-◌, ◌*◌, ◌^◌, ◌<◌, ◌≤◌, [], ◌∷◌, ◌++◌, Some, length, false, All, IfOk, IfSome, IfNone, IsSome, IsTrue, sum_by, slice_get, take, nat_lt, cond, ◌==◌, Option, ◌||◌, ℕ};
 ghost use Rattle.std.specs.List.{find, list_any};
 ghost use Rattle.std.specs.Option.{option_map};
 ghost use Rattle.slab.specs.Slab.{get, with_value};
 ghost use Rattle.sg_serial.specs.Locks.{lesser};
-ghost use Rattle.sg_core.specs.Live.{begun, is_of, is_live, without, has_reserved, reserving, unreserving, has_dropped, dropping, number_of};
+ghost use Rattle.sg_serial.specs.Runs.{nth_mark};
+ghost use Rattle.sg_core.specs.Live.{begun, is_of, is_live, without, reserving, unreserving, has_dropped, dropping, number_of, marks_of, remarking};
 ghost use Rattle.sg_core.specs.Order.{least_number, is_above};
 ghost use Rattle.sg_core.specs.Slots.{live_of, HasAt};
 
-use sg_base::{OutOfMemory, TxnId};
+use crate::marks::{MOST_MARKS, Marks};
+use sg_base::{Lsn, OutOfMemory, TxnId};
 use slab::Slab;
 use std::alloc::Global;
 use std::marker::Model;
@@ -20,6 +22,7 @@ struct Live {
     transaction: TxnId,
     reserved: u32,
     dropped: bool,
+    marks: Marks,
 }
 
 /// The live transactions, at most 64. Contracts see the list of them in the order of their numbers,
@@ -112,6 +115,14 @@ fn least_above(live: &Slab<Live>, bound: Option<u64>) -> Option<u64>
     least
 }
 
+// One of those that are reserved, or none where there are none.
+fn one_of(reserved: u32) -> u32
+    ensures few { result ≤ reserved }
+    ensures rest { reserved - result ≡ reserved - 1 }
+{
+    if reserved > 0 { 1 } else { 0 }
+}
+
 fn as_number(n: Option<u64>) -> Option<TxnId>
     ensures { result ≡ option_map (λ m. record { 0 = m }) n }
 {
@@ -140,6 +151,7 @@ impl Txns {
             transaction: t,
             reserved: 0,
             dropped: false,
+            marks: Marks::none(),
         });
     }
 
@@ -197,28 +209,31 @@ impl Txns {
                     transaction: t,
                     reserved: entry.reserved + 1,
                     dropped: entry.dropped,
+                    marks: entry.marks,
                 },
             );
             self.reserved += 1;
         }
     }
 
-    /// A live transaction gives back one of those that it has reserved.
+    /// A live transaction gives back one of those that it has reserved, if it has reserved any.
     pub fn unreserve(&mut self, t: TxnId)
-        requires { IsTrue (has_reserved self.old t.0) }
+        requires { IsTrue (is_live self.old t.0) }
         ensures { self.new ≡ unreserving t.0 self.old }
     {
         if let Some((key, entry)) = find(&self.live, t) {
+            let given = one_of(entry.reserved);
             put(
                 &mut self.live,
                 key,
                 Live {
                     transaction: t,
-                    reserved: entry.reserved - 1,
+                    reserved: entry.reserved - given,
                     dropped: entry.dropped,
+                    marks: entry.marks,
                 },
             );
-            self.reserved -= 1;
+            self.reserved -= given;
         }
     }
 
@@ -235,6 +250,7 @@ impl Txns {
                     transaction: t,
                     reserved: entry.reserved,
                     dropped: true,
+                    marks: entry.marks,
                 },
             );
         }
@@ -255,5 +271,69 @@ impl Txns {
         ensures { result ≡ sum_by (λ x. x.reserved) self.now }
     {
         self.reserved
+    }
+
+    /// How many marks a live transaction has; 0 where it isn't live.
+    pub fn marks(&self, t: TxnId) -> u16
+        ensures { result ≡ length (marks_of self.now t.0) }
+    {
+        match find(&self.live, t) {
+            Some((_, entry)) => entry.marks.len() as u16,
+            None => 0,
+        }
+    }
+
+    /// A live transaction sets a mark, at the record with this number; it had fewer than 16. The answer is the
+    /// mark's number, of which the first is 1.
+    pub fn push_mark(&mut self, t: TxnId, at: Lsn) -> u16
+        requires live { IsTrue (is_live self.old t.0) }
+        requires room { length (marks_of self.old t.0) < MOST_MARKS }
+        ensures marks { self.new ≡ remarking t.0 (λ ms. ms ++ at ∷ []) self.old }
+        ensures number { result ≡ length (marks_of self.old t.0) + 1 }
+    {
+        let Some((key, entry)) = find(&self.live, t) else {
+            return 0;
+        };
+        put(
+            &mut self.live,
+            key,
+            Live {
+                transaction: t,
+                reserved: entry.reserved,
+                dropped: entry.dropped,
+                marks: entry.marks.with(at),
+            },
+        );
+        entry.marks.len() as u16 + 1
+    }
+
+    /// The number of the record at a mark; `None` exactly where the transaction isn't live or has no mark of
+    /// this number.
+    pub fn mark(&self, t: TxnId, number: u16) -> Option<Lsn>
+        ensures { result ≡ nth_mark number (marks_of self.now t.0) }
+    {
+        match find(&self.live, t) {
+            Some((_, entry)) => entry.marks.nth(number as usize),
+            None => None,
+        }
+    }
+
+    /// A live transaction has only the first so many of its marks, or all where there are fewer.
+    pub fn cut_marks(&mut self, t: TxnId, count: u16)
+        requires { IsTrue (is_live self.old t.0) }
+        ensures { self.new ≡ remarking t.0 (λ ms. take count ms) self.old }
+    {
+        if let Some((key, entry)) = find(&self.live, t) {
+            put(
+                &mut self.live,
+                key,
+                Live {
+                    transaction: t,
+                    reserved: entry.reserved,
+                    dropped: entry.dropped,
+                    marks: entry.marks.first(count as usize),
+                },
+            );
+        }
     }
 }

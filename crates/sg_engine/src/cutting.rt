@@ -4,6 +4,7 @@ ghost use Rattle.sg_base.specs.Ends.{HasRisen};
 ghost use Rattle.sg_disk.specs.Disk.{LeavesOnly};
 ghost use Rattle.sg_disk.specs.Heeds.{Heeds};
 ghost use Rattle.sg_gate.specs.Superblock.{IsSuper};
+ghost use Rattle.sg_log.specs.Cut.{cut_to};
 ghost use Rattle.sg_log.specs.Frames.{Numbered};
 ghost use Rattle.sg_engine.specs.Engine.{Origin};
 ghost use Rattle.sg_engine.specs.Faults.{is_disk};
@@ -11,9 +12,10 @@ ghost use Rattle.sg_engine.specs.Running.{IsEngine, IsAllowed};
 ghost use Rattle.sg_engine.specs.Cut.{super_at, next_stand, IsCutting, IsCutOff};
 
 use crate::{Engine, EngineFault};
-use sg_base::Lsn;
+use sg_base::{Area, Lsn};
 use sg_disk::Disk;
 use sg_gate::{Super, renew};
+use std::snapshot::Snapshot;
 
 // The superblock of the store once its log begins at this number, in the other area.
 fn next_super(s: &Super, base: Lsn) -> Super
@@ -43,6 +45,20 @@ impl<D: Disk> Engine<D> {
         self.log.base()
     }
 
+    /// The area in which the log stands.
+    pub fn area(&self) -> Area
+        ensures { result ≡ self.now.log.area }
+    {
+        self.log.area()
+    }
+
+    /// The disk as it is now, for clauses to read. It has no bytes.
+    pub fn snapshot(&self) -> Snapshot<D>
+        ensures { result.value ≡ self.now.disk }
+    {
+        Snapshot::of(&self.disk)
+    }
+
     /// Cuts the log off in front of the frame that holds a durable byte, and answers the superblock that
     /// counts then. Where that is the first frame, nothing is done. `s` is the superblock so far, and the
     /// buffer is empty.
@@ -69,6 +85,11 @@ impl<D: Disk> Engine<D> {
             IsAllowed o (D.view self.old.disk) self.old.log self.old.pool point → LeavesOnly (D.view self.old.disk) (D.view self.new.disk) (IsCutting o (D.view self.old.disk) self.old.log self.old.pool point ds) }
         ensures heeded { Heeds is_disk result (D.view self.old.disk) (D.view self.new.disk) }
         ensures later { (D.view self.old.disk).faults ≤ (D.view self.new.disk).faults }
+        // The log ends where it ended, and the pool is as it was.
+        ensures log { OnOk result ((self.new.log ≡ self.old.log) ⊎ (self.new.log ≡ cut_to self.new.log.base self.old.log)) }
+        ensures range { IfOk result IsSuper }
+        ensures pool { self.new.pool ≡ self.old.pool }
+        ensures kept { (D.view self.old.disk).handed ≤ (D.view self.new.disk).handed }
     {
         let area = self.log.area();
         let base = self.log.base();

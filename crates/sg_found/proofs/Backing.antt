@@ -37,17 +37,26 @@ back_there {rs} {base} {before} {at} {start} [] h low here some = by_bottom h.bo
     by_bottom (inr z) = subst (λ (n : ℕ). IsSome (step_at rs n)) (sym h.at_is) z.there
 back_there {rs} {base} {before} {at} {start} (d ∷ ds) h low here some = subst IsSome (sym (ap (step_at rs) h.at_is ∙ h.linked.0)) refl
 
+-- what is left of these stands behind what all of them stand behind
+abbrev pub AreOf : (all left : List (Open Changing)) → Type 0
+AreOf all left = (low : ℕ) → Each (λ d. low ≤ d.lsn) all → Each (λ d. low ≤ d.lsn) left
+
 -- a change leads on
-pub back_on : {rs : Steps} {base before at start prev : ℕ} (ds : List (Open Changing)) → IsBack rs base before at ds → base ≤ start → start ≤ at → (at ≡ 0 → ⊥) → Changed prev ≡ back_by (step_at rs at) → (es : List (Open Changing)) × IsBack rs base before prev es
+pub back_on : {rs : Steps} {base before at start prev : ℕ} (ds : List (Open Changing)) → IsBack rs base before at ds → base ≤ start → start ≤ at → (at ≡ 0 → ⊥) → Changed prev ≡ back_by (step_at rs at) → (es : List (Open Changing)) × IsBack rs base before prev es × AreOf ds es
 back_on {rs} {base} {before} {at} {start} {prev} [] h low here some e = by_bottom h.bottom
   where
-    by_bottom : IsBefore base before ⊎ IsBorderAt rs before → (es : List (Open Changing)) × IsBack rs base before prev es
+    by_bottom : IsBefore base before ⊎ IsBorderAt rs before → (es : List (Open Changing)) × IsBack rs base before prev es × AreOf [] es
     by_bottom (inl z) = absurd (under base start before at low here h.at_is some z)
     by_bottom (inr z) = absurd (let no : Changed prev ≡ Other = e ∙ (ap (λ (n : ℕ). back_by (step_at rs n)) h.at_is ∙ z.other) in cc)
 back_on {rs} {base} {before} {at} {start} {prev} (d ∷ ds) h low here some e =
     let is : Changed prev ≡ Changed (next_off before ds) = e ∙ ap back_by (ap (step_at rs) h.at_is ∙ h.linked.0) in
     let same : prev ≡ next_off before ds = cc in
-    (ds, record { linked = h.linked.3; at_is = same; bottom = h.bottom })
+    (ds, record { linked = h.linked.3; at_is = same; bottom = h.bottom }, λ lo w. w.1)
+
+-- before what all open changes stand behind nothing is left
+pub back_cut : {rs : Steps} {base before at : ℕ} (low : ℕ) (ds : List (Open Changing)) → IsBack rs base before at ds → Each (λ d. low ≤ d.lsn) ds → at < low → at ≡ before
+back_cut {rs} {base} {before} {at} low [] h w less = h.at_is
+back_cut {rs} {base} {before} {at} low (d ∷ ds) h w less = let is = h.at_is in let up = w.0 in absurd (omega (arith, is, up, less))
 
 -- below the log's begin nothing is left
 pub back_below : {rs : Steps} {base before at start : ℕ} (ds : List (Open Changing)) → IsBack rs base before at ds → base ≡ start → Each (λ r. base ≤ r.lsn) rs → at < start → at ≡ before

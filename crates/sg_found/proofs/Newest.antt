@@ -328,6 +328,12 @@ open_at base rs t at h un from = by_step n.is refl (subst (λ (o : Option Step).
 pub step_above : (base at : ℕ) (x : Step) (rs : Steps) → Each (λ r. base ≤ r.lsn) rs → step_at rs at ≡ Some x → base ≤ at
 step_above base at x rs above e = there_above base at x rs above (sym (at_is rs at) ∙ e)
 
+-- so is the last record of an action without an end
+pub last_above : (base : ℕ) (rs : Steps) (t : ℕ) → IsLog base rs → IsUnfinished rs t → base ≤ last_of t rs
+last_above base rs t h un =
+    let n = newest base rs h.above h.chained h.owned h.system h.straight t un in
+    step_above base (last_of t rs) n.is rs h.above (ap (step_at rs) n.last ∙ n.here)
+
 -- what is seen as none of an action's changes is a border
 seen_border : (x : Step) → back_of x ≡ Other → is_border x ≡ true
 seen_border (Begin u p) e = refl

@@ -38,13 +38,14 @@ pub record IsBack (rs : Steps) (base before at : ℕ) (ds : List (Open Changing)
   pub at_is : at ≡ next_off before ds
   pub bottom : IsBefore base before ⊎ IsBorderAt rs before
 
--- there is such a way, in a log that begins here
+-- there is such a way over all open changes, in a log that begins here
 pub record HasBack (rs : Steps) (start at : ℕ) : Type 0 where
   pub base : ℕ
   pub begins : base ≡ start
   pub above : Each (λ r. base ≤ r.lsn) rs
   pub before : ℕ
   pub ds : List (Open Changing)
+  pub all : ds ≡ (tally rs).opened
   pub back : IsBack rs base before at ds
 
 -- where a take-off goes on, by what is seen at the last record of its action: there, or where that points to

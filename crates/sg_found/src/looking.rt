@@ -57,6 +57,7 @@ fn back_of(r: &Rec<'_>) -> Back
 // Looks at a record of the log. What can't be read is none of an action.
 fn look_back<E: Engine>(engine: &mut E, at: Lsn) -> Result<Back, SpaceFault>
     requires there { HasStep (E.view engine.old) at }
+    requires kept { (E.view engine.old).Told → E.first_byte engine.old ≤ at }
     ensures looks { HasLooked E.recovers (E.view engine.old) (E.view engine.new) (E.means engine.old) (E.means engine.new) result }
     ensures saw { (t : Table) (from : State) → E.means engine.old t from →
         IfOk result (λ b. (E.view engine.old).Told → b ≡ back_by (step_at (E.view engine.old).steps at)) }
@@ -72,6 +73,7 @@ fn look_back<E: Engine>(engine: &mut E, at: Lsn) -> Result<Back, SpaceFault>
 // Where a take-off goes on, by the last record of its action. `None` where that is none of an action.
 fn find_from<E: Engine>(engine: &mut E, last: Lsn) -> Result<Option<Lsn>, SpaceFault>
     requires there { HasStep (E.view engine.old) last }
+    requires kept { (E.view engine.old).Told → E.first_byte engine.old ≤ last }
     ensures looks { HasLooked E.recovers (E.view engine.old) (E.view engine.new) (E.means engine.old) (E.means engine.new) result }
     ensures found { (t : Table) (from : State) → E.means engine.old t from →
         IfOk result (λ r. (E.view engine.old).Told → IfSome r (IsFrom (back_by (step_at (E.view engine.old).steps last)) last)) }
@@ -96,6 +98,10 @@ fn find_before<E: Engine>(engine: &mut E, first: Lsn, start: Lsn) -> Result<Opti
     let mut at = first;
     'changes: while at != 0 {
         if at < start {
+            return Ok(Some(at));
+        }
+        // an open change is a record that the log still has
+        if at < engine.start() {
             return Ok(Some(at));
         }
         match look_back(engine, at)? {

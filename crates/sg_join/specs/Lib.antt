@@ -1,3 +1,4 @@
 pub mod Join
 pub mod Joint
+pub mod Points
 pub mod Claims

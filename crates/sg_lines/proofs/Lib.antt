@@ -3,3 +3,4 @@ pub mod Written
 pub mod Summing
 pub mod Parting
 pub mod Writing
+pub mod Adding

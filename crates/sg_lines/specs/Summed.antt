@@ -1,10 +1,11 @@
 -- What objects come to.
-use Rattle.std.specs.Prelude.{ℕ, ◌+◌, ◌%◌, ◌^◌, ◌-◌, min, List, length, sum}
+use Rattle.std.specs.Prelude.{ℕ, ◌+◌, ◌%◌, ◌^◌, ◌-◌, ◌++◌, min, List, codes, length, sum}
 use Rattle.std.specs.List.{sum_by}
 use Rattle.std.specs.FinMap.{entries}
 use Rattle.sg_model.specs.Objects.{Object, Objects}
 use Rattle.sg_model.specs.Objects.Object.{Array, Table, Blob}
 use Rattle.sg_lines.specs.declared.summary.Summary.{Summary}
+use Rattle.sg_lines.specs.Text.{behind_space}
 
 abbrev pub items_of : Object → ℕ
 items_of (Array row) = length row.items
@@ -58,3 +59,8 @@ both a b = record {
   bytes = counted (a.bytes + b.bytes);
   sum = (a.sum + b.sum) % 2 ^ 64;
 }
+
+-- the line of a summary
+abbrev pub summary_line : Summary → List ℕ
+summary_line s = codes "objects" ++ behind_space s.objects ++ codes " items" ++ behind_space s.items ++ codes " entries" ++ behind_space s.entries
+    ++ codes " bytes" ++ behind_space s.bytes ++ codes " sum" ++ behind_space s.sum ++ codes "\n"

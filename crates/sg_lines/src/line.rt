@@ -3,8 +3,10 @@ ghost use Rattle.std.specs.Prelude.{◌≡◌, ◌+◌, ◌*◌, ◌≤◌, ◌+
 ghost use Rattle.std.specs.List.{list_all};
 ghost use Rattle.hex.specs.Hex.{encode_lower};
 ghost use Rattle.sg_words.specs.Writing.{Writes};
+ghost use Rattle.sg_lines.specs.Summed.{summary_line};
 ghost use Rattle.sg_lines.specs.Text.{behind_space, item_line, entry_line, is_zero, piece_line, heading};
 
+use crate::summary::Summary;
 use sg_base::{Failed, Sink};
 use sg_text::{append, append_hex, append_number};
 use sg_words::{add_word, finish};
@@ -111,5 +113,33 @@ pub fn write_heading<K: Sink>(
 {
     let mut line = [0u8; 256];
     let end = put_heading(&mut line, kind, name, size, count);
+    out.write(&line[..end])
+}
+
+// Puts the line of a summary at the front of a buffer.
+fn put_summary(into: &mut [u8], all: Summary) -> usize
+    requires { 256 ≤ length into.old }
+    ensures end { result ≤ 256 }
+    ensures line { take result into.new ≡ summary_line all }
+{
+    let end = append(into, 0, b"objects");
+    let end = put_number(into, end, all.objects);
+    let end = append(into, end, b" items");
+    let end = put_number(into, end, all.items);
+    let end = append(into, end, b" entries");
+    let end = put_number(into, end, all.entries);
+    let end = append(into, end, b" bytes");
+    let end = put_number(into, end, all.bytes);
+    let end = append(into, end, b" sum");
+    let end = put_number(into, end, all.sum);
+    append(into, end, b"\n")
+}
+
+/// Writes the line of a summary, in one call of the sink.
+pub fn write_summary<K: Sink>(all: Summary, out: &mut K) -> Result<(), Failed>
+    ensures { Writes (K.taken out.old) (summary_line all) (K.taken out.new) (K.faults out.old) (K.faults out.new) result }
+{
+    let mut line = [0u8; 256];
+    let end = put_summary(&mut line, all);
     out.write(&line[..end])
 }

@@ -25,6 +25,7 @@ use Rattle.sg_ground.proofs.Lawful.{ground_is_lawful}
 use Rattle.sg_model.specs.Objects.{Objects}
 use Rattle.sg_phys_laws.specs.Recovers.{RecoversBy, origin_of, records_in}
 use Rattle.sg_phys_laws.specs.States.{steps_of}
+use Rattle.sg_phys_laws.proofs.Recovered.{whole_image}
 use Rattle.sg_reader.proofs.Decide.{reader}
 use Rattle.sg_recovery.specs.Chains.{next_lsn}
 use Rattle.sg_recovery.specs.Formed.{IsLog}
@@ -117,8 +118,9 @@ module _ (t : Table) (c : Image) (m : Objects) (h : ImageStandsFor t c m) where
       let log_is : q.log ≡ steps_of (records_in (origin_of t c) c) = q.recovers.image.holds.records in
       let is : IsStoreImage t (from t z c q) q.log q.log (reads v) = subst (λ (i : Image). IsStoreImage t (from t z c q) q.log q.log i) (sym same) is_of in
       let here : IsStoreImage t (from t z c q) q.log q.log d = (attaching (from t z c q) q.log q.log is).each d (inl leaves) in
-      subst (λ (l : Steps). IsStoreImage t (from t z c q) l a.engine.steps d) (log_is ∙ sym durable)
-      (subst (λ (l : Steps). IsStoreImage t (from t z c q) q.log l d) (log_is ∙ sym steps) here)
+      whole_image (RecoversBy t) t (from t z c q) a.engine.durable a.engine.steps d
+      (subst (λ (l : Steps). IsStoreImage t (from t z c q) l a.engine.steps d) (log_is ∙ sym durable)
+      (subst (λ (l : Steps). IsStoreImage t (from t z c q) q.log l d) (log_is ∙ sym steps) here))
 
 -- it may be started, where it tells
 pub found_asks : (t : Table) (c : Image) (losers : List TxnId) (e : Shown (basis RecoversBy)) → (e.Told → (m : Objects) × HasFound t c m losers e) → AskedBy t e (IsOpenedWith losers t)

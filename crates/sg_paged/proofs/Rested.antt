@@ -1,5 +1,5 @@
 -- A CALL THAT APPENDS NO RECORD.
-use Rattle.std.proofs.Common.{◌≡◌, ℕ, Bool, true, false, not, Option, Some, None, Result, sym, ap, subst, ◌∙◌, refl}
+use Rattle.std.proofs.Common.{◌≡◌, ℕ, Bool, true, false, not, List, Option, Some, None, Result, sym, ap, subst, ◌∙◌, refl}
 use Rattle.std.specs.Prelude.{OnOk, OnErr, IfOk, IfSome, option_map, ◌&&◌, if◌then◌else◌}
 use Rattle.sg_base.specs.declared.numbers.TxnId.{TxnId}
 use Rattle.sg_alloc.specs.declared.maps.Maps.{Maps}
@@ -10,6 +10,7 @@ use Rattle.sg_space.specs.declared.space.SpaceFault.{SpaceFault}
 use Rattle.sg_action.specs.States.{State}
 use Rattle.sg_actions.specs.Calls.{IsActable}
 use Rattle.sg_actions.specs.Counts.{Note}
+use Rattle.sg_actions.specs.Cutting.{IsOldest}
 use Rattle.sg_actions.specs.Undoing.{next_note}
 use Rattle.sg_actions.proofs.Given.{next_first}
 use Rattle.sg_actions.specs.Engine.{EngineSeen, led}
@@ -121,3 +122,8 @@ next_is rs txn r formed is = by_next (next_note txn txn rs) refl
     by_next : (o : Option Note) → next_note txn txn rs ≡ o → IsNextUndo txn (tally rs).notes r
     by_next None e = subst (λ (q : Option ℕ). IsNextUndo txn (tally rs).notes q) (sym (is ∙ ap (option_map (λ (n : Note). n.lsn)) e)) (next_first.none rs txn formed e)
     by_next (Some n) e = let f = next_first.some rs txn txn n e in subst (λ (q : Option ℕ). IsNextUndo txn (tally rs).notes q) (sym (is ∙ ap (option_map (λ (n : Note). n.lsn)) e)) (n, f.0, f.1, refl)
+
+-- the transaction that began first, as a store says it and as the actions do
+pub oldest_is : (oldest : Option TxnId) (live : List ℕ) → store.IsOldest oldest live → IsOldest oldest live
+oldest_is None live h = h
+oldest_is (Some u) live h = h

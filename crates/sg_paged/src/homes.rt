@@ -1,11 +1,14 @@
 // Calls that append no record of a transaction.
 ghost use Rattle.std.specs.Prelude.{◌≡◌, ◌≤◌, ◌+◌, ℕ, IfErr, OnOk};
 ghost use Rattle.sg_checkpoints.specs.Checkpoints.{HasMarked, StaysMarked};
-ghost use Rattle.sg_store.specs.Engine.{Keeps, AsMeant, Asked, IsEngine, IsIdle, IsAtRest, Rests, Rested, Counts, IsDiskFault, IsNearEnd};
+ghost use Rattle.sg_checkpoints.specs.Cutting.{IsCut};
+ghost use Rattle.sg_recovery.specs.Log.{tally};
+ghost use Rattle.sg_store.specs.Engine.{Keeps, AsMeant, Asked, IsEngine, IsIdle, IsAtRest, IsOldest, IsFirst, Rests, Rested, Counts, IsDiskFault, IsNearEnd};
 ghost use Rattle.sg_shown.specs.Shown.{shown};
 
 use crate::resting::{again, quiet};
 use sg_actions::{Acts, Engine};
+use sg_base::TxnId;
 use sg_space::SpaceFault;
 
 /// Makes the log durable and writes all changed pages and bands home.
@@ -20,6 +23,21 @@ pub fn flush<E: Engine>(acts: &mut Acts<E>) -> Result<(), SpaceFault>
         → IsIdle v → Rests t g v w × OnOk result (Rested t g v w × (w.durable ≡ w.log))) }
 {
     acts.flush()
+}
+
+/// Makes the log durable, and cuts off of it what neither redo nor undo wants any more, where `oldest` is the
+/// live transaction that began first.
+pub fn truncate<E: Engine>(acts: &mut Acts<E>, oldest: Option<TxnId>) -> Result<(), SpaceFault>
+    requires can { Asked (shown acts.old) (IsFirst oldest) }
+    ensures counts { Counts IsDiskFault (shown acts.old) (shown acts.new) result }
+    ensures means { Keeps (shown acts.old) (shown acts.new) }
+    ensures reads { IfErr result IsDiskFault }
+    ensures cuts { OnOk result ((shown acts.old).Told → IsCut (E.unwritten acts.old.engine) oldest (E.last_checkpoint acts.old.engine) (E.is_spent acts.old.engine) (shown acts.old).start (shown acts.new).start (E.first_frame_end acts.new.engine)) }
+    ensures rests { AsMeant (shown acts.old) (shown acts.new) (λ t g v w. IsEngine t g v
+        → IsIdle v → IsOldest oldest (tally v.log).live → Rests t g v w
+        × OnOk result (Rested t g v w × (w.durable ≡ w.log))) }
+{
+    acts.truncate(oldest)
 }
 
 /// Makes the log durable with a record of where its redo has to begin.

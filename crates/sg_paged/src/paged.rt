@@ -6,10 +6,11 @@ use sg_actions::{Acts, Engine};
 use sg_alloc::Maps;
 use sg_base::{Lsn, Name, TxnId};
 use sg_bucket::Bytes;
+use sg_lines::Listener;
 use sg_model::{Op, Reason, Reply, Touches};
 use sg_ops::Ops;
 use sg_space::{ListFault, PageSpace, SpaceFault, UndoNote};
-use sg_store::{Needed, ObjFault};
+use sg_store::{Needed, ObjFault, TellFault};
 use std::alloc::Global;
 
 /// Transactions and their actions over a page engine, as the engine of a store.
@@ -156,6 +157,18 @@ impl<E: Engine> sg_store::Objects for Paged<E> {
     }
 }
 
+impl<E: Engine> sg_store::Truncates for Paged<E> {
+    ghost first_frame_end = { λ s. E.first_frame_end s.acts.engine };
+
+    ghost last_checkpoint = { λ s. E.last_checkpoint s.acts.engine };
+
+    ghost is_spent = { λ s. E.is_spent s.acts.engine };
+
+    fn truncate(&mut self, oldest: Option<TxnId>) -> Result<(), SpaceFault> {
+        homes::truncate(&mut self.acts, oldest)
+    }
+}
+
 impl<E: Engine> sg_store::Lists for Paged<E> {
     fn touches_keys(&mut self, name: Name, into: &mut Touches) -> Result<(), SpaceFault> {
         sg_verbs::touches_keys(&mut self.acts, name, into)
@@ -167,5 +180,11 @@ impl<E: Engine> sg_store::Lists for Paged<E> {
 
     fn list(&mut self, alloc: Global) -> Result<Vec<Name>, ListFault> {
         sg_verbs::list(&mut self.acts, alloc)
+    }
+}
+
+impl<E: Engine> sg_store::Tells for Paged<E> {
+    fn tell<L: Listener>(&mut self, alloc: Global, to: &mut L) -> Result<u64, TellFault> {
+        sg_verbs::tell(&mut self.acts, alloc, to)
     }
 }

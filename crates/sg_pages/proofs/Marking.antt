@@ -1,6 +1,6 @@
 -- Where a checkpoint has redo begin, and that it is the last record of each image once all is forced.
 use Rattle.std.proofs.Common.{◌≡◌, ◌⊎◌, inl, inr, ⊎_elim, ◌<◌, ◌≤◌, ◌+◌, ℕ, Bool, true, false, List, [], ◌∷◌, ◌++◌, length, refl, sym, ap, ◌∙◌, subst, arith, append_assoc}
-use Rattle.std.specs.Prelude.{IsTrue, nat_le, if◌then◌else◌, Result, Ok, Err, OnOk}
+use Rattle.std.specs.Prelude.{IsTrue, nat_le, if◌then◌else◌, Result, Ok, Err, OnOk, Some, option_map}
 use Rattle.std.proofs.Props.{props}
 use Rattle.std.proofs.lemmas.List.{append_cancel_left}
 use mathlib.Core.Logic.{∥∥₁_elim, ∥∥₁_prop}
@@ -24,12 +24,11 @@ use Rattle.sg_engine.proofs.Pools.{point_allowed, unwritten_low}
 use Rattle.sg_checkpoints.specs.Checkpoints.{Estimates, StaysMarked}
 use Rattle.sg_actions.specs.Engine.{EngineLooks, led}
 use Rattle.sg_actions.specs.Images.{Grows}
-use Rattle.sg_actions.specs.Steps.{Steps}
+use Rattle.sg_actions.specs.Steps.{Steps, repeated}
 use Rattle.sg_phys_laws.specs.Logged.{HasLogged, StillAllowed, at_number}
-use Rattle.sg_phys_laws.specs.Poised.{IsPoised}
 use Rattle.sg_phys_laws.specs.Points.{IsMarked, NoneLater}
 use Rattle.sg_phys_laws.specs.Reading.{durable_in, waiting_in, frames_read}
-use Rattle.sg_phys_laws.specs.Recovers.{records_in, super_of, origin_of, RecoversBy}
+use Rattle.sg_phys_laws.specs.Recovers.{records_in, super_of, RecoversBy}
 use Rattle.sg_phys_laws.specs.States.{steps_of}
 use Rattle.sg_phys_laws.proofs.Checkpoints.{checkpoint_long}
 use Rattle.sg_phys_laws.proofs.Latest.{exact_latest}
@@ -40,11 +39,13 @@ use Rattle.sg_phys_laws.proofs.Sets.{steps_set}
 use Rattle.sg_phys_laws.proofs.Stepping.{steps_more}
 use Rattle.sg_phys_laws.proofs.Wrapped.{append_none, all_are}
 use Rattle.sg_space.specs.declared.space.SpaceFault.{SpaceFault}
-use Rattle.sg_phys.specs.Phys.{Parts, Stands, StandsBy, StandsForSome, Tells, appended, broken, seen_by, seen_of}
+use Rattle.sg_phys.specs.Phys.{Parts, IsBehind, Stands, StandsBy, StandsForSome, Tells, appended, broken, noted, origin_at, seen_by}
+use Rattle.sg_phys.proofs.Behind.{grows_behind}
 use Rattle.sg_phys.proofs.Causes.{by_poised}
-use Rattle.sg_phys.proofs.Images.{by_table}
-use Rattle.sg_phys.proofs.Seen.{HasStood, HasLoggedIt, looks_err}
-use Rattle.sg_pages.specs.Marks.{EndsWith, LogEnds, ImageEnds}
+use Rattle.sg_phys.proofs.Images.{by_past}
+use Rattle.sg_phys.proofs.Lasts.{last_mark}
+use Rattle.sg_phys.proofs.Seen.{HasStood, HasLoggedIt, behind_then, looks_err}
+use Rattle.sg_pages.specs.Marks.{EndsWith, LogEnds, ImageEnds, EndsNaming, LogNames}
 
 -- the number of a checkpoint doesn't depend on what it estimates
 pub place_same : (log : Tail) (estimate : ℕ) (live : List ℕ) → place_of log (by 0 0 (Checkpoint estimate live)) ≡ place_of log (by 0 0 (Checkpoint 0 live))
@@ -61,13 +62,13 @@ pub low_prop : IsProp ⊥
 low_prop = hlevel props
 
 -- WHERE REDO IS TO BEGIN, by where the oldest change is that isn't on the disk, or the log's tail where there is none
-module _ (Given : Type 0) (p : Parts) (some : StandsForSome Given p.failed p.found p.disk p.log p.pool) (point : ℕ) (exact : IsUnwritten p.pool point ⊎ (((lsn : ℕ) → IsUnwritten p.pool lsn → ⊥) × (point ≡ tail_of p.log))) where
+module _ (Given : Type 0) (p : Parts) (some : StandsForSome Given p.failed p.past p.disk p.log p.pool) (point : ℕ) (exact : IsUnwritten p.pool point ⊎ (((lsn : ℕ) → IsUnwritten p.pool lsn → ⊥) × (point ≡ tail_of p.log))) where
   pub at_tail : (lsn : ℕ) → point ≡ tail_of p.log → Tells Given p.failed → Estimates (IsUnwritten p.pool) lsn lsn
   at_tail lsn is tell = inr (none, refl)
     where
       none : (x : ℕ) → IsUnwritten p.pool x → ⊥
       none x un = ⊎_elim
-          (λ at. by_poised Given p some low_prop (λ t from m q. (let lt = below_tail (origin_of t (seen_of p.found)) p.disk p.log (durable_in p.disk p.log) (waiting_in p.log) p.pool point q.now.engine at in omega (arith, is, lt))) tell)
+          (λ at. by_poised Given p some low_prop (λ t from m q. (let lt = below_tail (origin_at t p.past) p.disk p.log (durable_in p.disk p.log) (waiting_in p.log) p.pool point q.poised.now.engine at in omega (arith, is, lt))) tell)
           (λ no. no.0 x un)
           exact
 
@@ -120,54 +121,76 @@ module _ (o : Origin) (w : View) (log : Tail) (ns : List Numbered) (pool : Pool)
       ∣ subst (λ (s : Super). EndsWith (frames_read LOG_END (c (log_area s)) s.base 0) lsn estimate) (sym (ap super_of stands.super)) here ∣₁
 
 -- a log that ended so before it was forced
-pub forced_ends : (Given : Type 0) (p : Parts) (w : View) (log : Tail) (pool : Pool) (some : StandsForSome Given p.failed p.found p.disk p.log p.pool)
+pub forced_ends : (Given : Type 0) (p : Parts) (w : View) (log : Tail) (pool : Pool) (some : StandsForSome Given p.failed p.past p.disk p.log p.pool)
     → ((o : Origin) (ds ps : List Numbered) → Given → IsEngine o p.disk p.log ds ps p.pool → IsEngine o w log (ds ++ ps) [] pool)
     → ((o : Origin) (ds ps : List Numbered) (k : ℕ) → Given → IsEngine o p.disk p.log ds ps p.pool → IsAllowed o p.disk p.log p.pool k → IsAllowed o w log pool k)
     → Tells Given p.failed → StaysMarked (LogEnds p.disk p.log) (LogEnds w log) ImageEnds w.now
 forced_ends Given p w log pool some forced allowed tell lsn estimate ends = record {
   last = by_poised Given p some ∥∥₁_prop
-      (λ t from m q. (let o = origin_of t (seen_of p.found) in
-      let e = forced o (durable_in p.disk p.log) (waiting_in p.log) tell.tells q.now.engine in
+      (λ t from m q. (let o = origin_at t p.past in
+      let e = forced o (durable_in p.disk p.log) (waiting_in p.log) tell.tells q.poised.now.engine in
       let same : durable_in w log ++ waiting_in log ≡ all_in_log p.disk p.log = all_are o w log (all_in_log p.disk p.log) [] pool e ∙ append_none (all_in_log p.disk p.log) in
       ∥∥₁_elim ends ∥∥₁_prop (λ is. ∣ subst (λ (l : List Numbered). EndsWith l lsn estimate) (sym same) is ∣₁)))
       tell;
   ends = λ c leaves. by_poised Given p some ∥∥₁_prop
-      (λ t from m q. (let o = origin_of t (seen_of p.found) in
+      (λ t from m q. (let o = origin_at t p.past in
       ∥∥₁_elim ends ∥∥₁_prop
-      (λ is. image_ends o w log (all_in_log p.disk p.log) pool (forced o (durable_in p.disk p.log) (waiting_in p.log) tell.tells q.now.engine)
-      o.super.base (allowed o (durable_in p.disk p.log) (waiting_in p.log) o.super.base tell.tells q.now.engine q.points.start) c leaves lsn estimate is)))
+      (λ is. image_ends o w log (all_in_log p.disk p.log) pool (forced o (durable_in p.disk p.log) (waiting_in p.log) tell.tells q.poised.now.engine)
+      o.super.base (allowed o (durable_in p.disk p.log) (waiting_in p.log) o.super.base tell.tells q.poised.now.engine q.poised.points.start) c leaves lsn estimate is)))
       tell;
 }
+
+-- a log that named these transactions before it was forced
+pub forced_names : (Given : Type 0) (p : Parts) (w : View) (log : Tail) (pool : Pool) (some : StandsForSome Given p.failed p.past p.disk p.log p.pool)
+    → ((o : Origin) (ds ps : List Numbered) → Given → IsEngine o p.disk p.log ds ps p.pool → IsEngine o w log (ds ++ ps) [] pool)
+    → Tells Given p.failed → (live : List ℕ) → LogNames p.disk p.log live → LogNames w log live
+forced_names Given p w log pool some forced tell live names = by_poised Given p some ∥∥₁_prop
+    (λ t from m q. (let o = origin_at t p.past in
+    let e = forced o (durable_in p.disk p.log) (waiting_in p.log) tell.tells q.poised.now.engine in
+    let same : durable_in w log ++ waiting_in log ≡ all_in_log p.disk p.log = all_are o w log (all_in_log p.disk p.log) [] pool e ∙ append_none (all_in_log p.disk p.log) in
+    ∥∥₁_elim names ∥∥₁_prop (λ is. ∣ subst (λ (l : List Numbered). EndsNaming l live) (sym same) is ∣₁)))
+    tell
 
 -- A CHECKPOINT WAS APPENDED, which isn't on the disk yet: whatever it estimates, the images of the call have none of it
 module _ (Given : Type 0) (p : Parts) (w : View) (log : Tail) (pool : Pool) (live : List ℕ) (lsn estimate : ℕ) where
   module _ (t : Table) (from : State) (m : StandsBy Given p t from) (estimates : Given → p.failed ≡ false → Estimates (IsUnwritten p.pool) lsn estimate) (same : pool ≡ p.pool) (late : tail_of p.log ≤ lsn) (further : lsn < tail_of log)
-      (still : Given → IsPoised t from (origin_of t (seen_of p.found)) p.disk p.log p.pool → StillAllowed (origin_of t (seen_of p.found)) p.disk w p.log log p.pool pool)
+      (still : Given → IsBehind t from p.past p.disk p.log p.pool → StillAllowed (origin_at t p.past) p.disk w p.log log p.pool pool)
       (logged : HasLoggedIt Given p w log pool (by 0 0 (Checkpoint estimate live)) lsn t from) where
     abbrev o' : Origin
-    o' = origin_of t (seen_of p.found)
+    o' = origin_at t p.past
 
-    low : Estimates (IsUnwritten p.pool) lsn estimate → IsPoised t from o' p.disk p.log p.pool → estimate ≤ lsn
-    low is q = estimate_low o' p.disk p.log (durable_in p.disk p.log) (waiting_in p.log) p.pool lsn estimate q.now.engine late is
+    abbrev from' : State
+    from' = repeated t from (steps_of p.past.gone)
 
-    behind : p.failed ≡ false → Given → IsPoised t from o' p.disk p.log p.pool → Behind t from o' p.disk w p.log log pool (all_in_log p.disk p.log ++ at_number lsn (by 0 0 (Checkpoint estimate live)) ∷ [])
+    abbrev with_it : List Numbered
+    with_it = all_in_log p.disk p.log ++ at_number lsn (by 0 0 (Checkpoint estimate live)) ∷ []
+
+    low : Estimates (IsUnwritten p.pool) lsn estimate → IsBehind t from p.past p.disk p.log p.pool → estimate ≤ lsn
+    low is q = estimate_low o' p.disk p.log (durable_in p.disk p.log) (waiting_in p.log) p.pool lsn estimate q.poised.now.engine late is
+
+    behind : p.failed ≡ false → Given → IsBehind t from p.past p.disk p.log p.pool → Behind t from' o' p.disk w p.log log pool with_it
     behind whole tells q =
         let h = (logged tells q).gone in
         let is = estimates tells whole in
-        behind_marked t from o' p.disk w p.log log p.pool pool (by 0 0 (Checkpoint estimate live)) lsn (by_table t (seen_of p.found)) q
+        behind_marked t from' o' p.disk w p.log log p.pool pool (by 0 0 (Checkpoint estimate live)) lsn (by_past t p.past) q.poised
         (estimate_allowed o' w log h.durable h.waiting pool lsn estimate h.engine further (subst (λ (b : Pool). Estimates (IsUnwritten b) lsn estimate) (sym same) is), low is q)
-        (none_later o' p.disk p.log (durable_in p.disk p.log) (waiting_in p.log) p.pool lsn estimate q.now.engine late is, low is q)
-        (all_formed q) refl (logged tells q) (still tells q)
+        (none_later o' p.disk p.log (durable_in p.disk p.log) (waiting_in p.log) p.pool lsn estimate q.poised.now.engine late is, low is q)
+        (all_formed q.poised) refl (logged tells q) (still tells q)
 
-    pub keeps_checkpoint : Stands Given p.failed p.found w log pool t from
-    keeps_checkpoint = record { lawful = m.lawful; known = ∥∥₁_elim m.known ∥∥₁_prop (λ k. ∣ (λ whole tells. (behind whole tells (k whole tells)).poised) ∣₁) }
+    pub keeps_checkpoint : Stands Given p.failed (record p.past { checkpoint = Some lsn }) w log pool t from
+    keeps_checkpoint = record {
+      lawful = m.lawful;
+      known = ∥∥₁_elim m.known ∥∥₁_prop (λ k. ∣ (λ whole tells. let q = k whole tells in
+          behind_then Given p w log pool t from m (Some lsn) with_it (sym (ap (option_map (λ c. c.0)) (last_mark (all_in_log p.disk p.log) lsn estimate live))) q (behind whole tells q)) ∣₁);
+    }
 
-    pub checkpoint_looks : {A : Type 0} (x : A) (end gate count : ℕ) → HasStood Given p w → EngineLooks (RecoversBy t) t (led from (seen_by Given p)) (led from (seen_by Given (appended p w log pool end gate lsn count))) (Ok x)
+    pub checkpoint_looks : {A : Type 0} (x : A) (end gate count : ℕ) → HasStood Given p w → EngineLooks (RecoversBy t) t (led from (seen_by Given p)) (led from (seen_by Given (noted (appended p w log pool end gate lsn count) (Some lsn)))) (Ok x)
     checkpoint_looks {A = A} x end gate count stood = record {
       stays = λ s. record {
-        steps = ∥∥₁_elim m.known (steps_set (steps_of (durable_in w log ++ waiting_in log)) (steps_of (all_in_log p.disk p.log)))
-            (λ k. (behind s.whole s.tells (k s.whole s.tells)).steps ∙ steps_more (all_in_log p.disk p.log) (at_number lsn (by 0 0 (Checkpoint estimate live))));
-        durable = grows_fix (steps_of (durable_in p.disk p.log)) (steps_of (durable_in w log)) (∥∥₁_elim m.known ∥∥₁_prop (λ k. ∣ (behind s.whole s.tells (k s.whole s.tells)).durable ∣₁));
+        steps = ap (λ (l : Steps). l ++ steps_of p.past.gone) (∥∥₁_elim m.known (steps_set (steps_of (durable_in w log ++ waiting_in log)) (steps_of (all_in_log p.disk p.log)))
+            (λ k. (behind s.whole s.tells (k s.whole s.tells)).steps ∙ steps_more (all_in_log p.disk p.log) (at_number lsn (by 0 0 (Checkpoint estimate live)))));
+        durable = grows_behind (steps_of p.past.gone) (steps_of (durable_in p.disk p.log)) (steps_of (durable_in w log))
+            (grows_fix (steps_of (durable_in p.disk p.log)) (steps_of (durable_in w log)) (∥∥₁_elim m.known ∥∥₁_prop (λ k. ∣ (behind s.whole s.tells (k s.whole s.tells)).durable ∣₁)));
       };
       moments = (looks_err Given p w log pool t from m {T = A} 0 stood).moments;
     }
@@ -177,8 +200,15 @@ module _ (Given : Type 0) (p : Parts) (w : View) (log : Tail) (pool : Pool) (liv
   checkpoint_fails {A = A} t from m e b f stood = record { stays = tt; moments = (looks_err Given p w log pool t from m {T = A} 0 stood).moments }
 
   -- it is the last record of the log
-  pub log_ends : StandsForSome Given p.failed p.found p.disk p.log p.pool → ((t : Table) (from : State) → StandsBy Given p t from → HasLoggedIt Given p w log pool (by 0 0 (Checkpoint estimate live)) lsn t from) → Tells Given p.failed → LogEnds w log lsn estimate
+  pub log_ends : StandsForSome Given p.failed p.past p.disk p.log p.pool → ((t : Table) (from : State) → StandsBy Given p t from → HasLoggedIt Given p w log pool (by 0 0 (Checkpoint estimate live)) lsn t from) → Tells Given p.failed → LogEnds w log lsn estimate
   log_ends some logged tell = by_poised Given p some ∥∥₁_prop
       (λ t from m q. (let h = (logged t from m tell.tells q).gone in
-      ∣ record { before = all_in_log p.disk p.log; live = live; all = all_are (origin_of t (seen_of p.found)) w log h.durable h.waiting pool h.engine ∙ h.is_all } ∣₁))
+      ∣ record { before = all_in_log p.disk p.log; live = live; all = all_are (origin_at t p.past) w log h.durable h.waiting pool h.engine ∙ h.is_all } ∣₁))
+      tell
+
+  -- which names these transactions
+  pub log_names : StandsForSome Given p.failed p.past p.disk p.log p.pool → ((t : Table) (from : State) → StandsBy Given p t from → HasLoggedIt Given p w log pool (by 0 0 (Checkpoint estimate live)) lsn t from) → Tells Given p.failed → LogNames w log live
+  log_names some logged tell = by_poised Given p some ∥∥₁_prop
+      (λ t from m q. (let h = (logged t from m tell.tells q).gone in
+      ∣ record { before = all_in_log p.disk p.log; lsn = lsn; estimate = estimate; all = all_are (origin_at t p.past) w log h.durable h.waiting pool h.engine ∙ h.is_all } ∣₁))
       tell

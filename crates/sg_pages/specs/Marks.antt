@@ -20,6 +20,17 @@ pub record EndsWith (ns : List Numbered) (lsn estimate : ℕ) : Type 0 where
 abbrev pub LogEnds : View → Tail → (lsn estimate : ℕ) → Type 0
 LogEnds v log lsn estimate = ∥ EndsWith (durable_in v log ++ waiting_in log) lsn estimate ∥₁
 
+-- the last of these records is a checkpoint with these rows of transactions
+pub record EndsNaming (ns : List Numbered) (live : List ℕ) : Type 0 where
+  pub before : List Numbered
+  pub lsn : ℕ
+  pub estimate : ℕ
+  pub all : ns ≡ before ++ at_number lsn (by 0 0 (Checkpoint estimate live)) ∷ []
+
+-- THE LAST RECORD OF A LOG, durable or not, is one with these rows
+abbrev pub LogNames : View → Tail → (live : List ℕ) → Type 0
+LogNames v log live = ∥ EndsNaming (durable_in v log ++ waiting_in log) live ∥₁
+
 -- THE LAST RECORD OF AN IMAGE'S LOG is one, as its bytes have it
 abbrev pub ImageEnds : Image → (lsn estimate : ℕ) → Type 0
 ImageEnds c lsn estimate = ∥ EndsWith (frames_read LOG_END (c (log_area (super_in c))) (super_in c).base 0) lsn estimate ∥₁

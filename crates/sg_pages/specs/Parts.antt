@@ -6,12 +6,12 @@ use Rattle.sg_disk.specs.declared.presumed.Presumed.{Ghosts as Presumptions}
 use Rattle.sg_ops.specs.Table.{Table}
 use Rattle.sg_action.specs.States.{State}
 use Rattle.sg_actions.specs.Engine.{EngineSeen}
-use Rattle.sg_phys.specs.Phys.{IsGiven, Parts, StandsBy, seen_by}
+use Rattle.sg_phys.specs.Phys.{IsGiven, Parts, StandsBy, past_of, gone_by, settled, seen_by}
 use Rattle.sg_pages.specs.declared.phys.Phys.{Phys}
 
 abbrev pub parts : {D : Type 0} {h : Presumptions D} {g : Ghosts D} → (D → View) → Phys D h g → Parts
 parts view s = record {
-  found = view s.found.value;
+  past = past_of (view s.found.value) s.superblock (gone_by s.cuts.items (λ e. view e.value) (λ c. settled c.area c.base c.gate) (λ c. c.start)) s.checkpoint;
   disk = view s.engine.disk;
   log = s.engine.log;
   pool = s.engine.pool;

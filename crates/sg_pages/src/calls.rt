@@ -1,5 +1,5 @@
 // What the engine under the actions has beside the trait's calls.
-ghost use Rattle.std.specs.Prelude.{◌≡◌, ◌≤◌, ◌<◌, ◌*◌, ◌/◌, ℕ, false, length, IfOk};
+ghost use Rattle.std.specs.Prelude.{◌≡◌, ◌≤◌, ◌<◌, ◌*◌, ◌/◌, ℕ, false, [], length, IfOk, OnOk};
 ghost use Rattle.sg_ops.specs.Laws.{IsLawful};
 ghost use Rattle.sg_ops.specs.Table.{Table};
 ghost use Rattle.sg_action.specs.States.{State};
@@ -11,8 +11,9 @@ ghost use Rattle.sg_checkpoints.specs.Checkpoints.{Estimates, Marks};
 ghost use Rattle.sg_actions.specs.Engine.{EngineGrows, EngineLooks, Keeps, led};
 ghost use Rattle.sg_actions.specs.Handing.{HandsOver};
 ghost use Rattle.sg_engine.specs.Calls.{WaitsFrame};
-ghost use Rattle.sg_phys.specs.Phys.{IsGiven, StandsForSome};
-ghost use Rattle.sg_pages.specs.Marks.{LogEnds};
+ghost use Rattle.sg_gate.specs.Superblock.{IsSuper};
+ghost use Rattle.sg_phys.specs.Phys.{IsGiven, StandsForSome, past_of};
+ghost use Rattle.sg_pages.specs.Marks.{LogEnds, LogNames};
 ghost use Rattle.sg_pages.specs.Parts.{seen, stands};
 ghost use Rattle.sg_phys_laws.specs.Recovers.{RecoversBy};
 ghost use Rattle.sg_phys_laws.specs.Waiting.{waiting_of};
@@ -21,6 +22,8 @@ use crate::Phys;
 use sg_base::Lsn;
 use sg_disk::Presumed;
 use sg_engine::Engine;
+use sg_gate::Super;
+use sg_history::History;
 use sg_phys::{is_log_end, space_fault};
 use sg_phys_laws::log_plain;
 use sg_record::Rec;
@@ -29,12 +32,23 @@ use std::alloc::Global;
 use std::snapshot::Snapshot;
 
 impl<D: Presumed> Phys<D> {
-    /// Over an engine, with its disk as it was when the store was opened. It takes no memory.
-    pub fn new(alloc: Global, engine: Engine<D>, found: Snapshot<D>) -> Phys<D>
+    /// Over an engine, with its disk as it was when the store was opened, its superblock and the number of the last checkpoint
+    /// of its log. It takes no memory.
+    pub fn new(
+        alloc: Global,
+        engine: Engine<D>,
+        found: Snapshot<D>,
+        superblock: Super,
+        checkpoint: Option<Lsn>,
+    ) -> Phys<D>
         requires waits { WaitsFrame engine.log }
-        requires some { StandsForSome (IsGiven D.told D.presumed) false (D.view found.value) (D.view engine.disk) engine.log engine.pool }
+        requires range { IsSuper superblock }
+        requires some { StandsForSome (IsGiven D.told D.presumed) false (past_of (D.view found.value) superblock [] checkpoint) (D.view engine.disk) engine.log engine.pool }
         ensures engine { result.engine ≡ engine }
         ensures found { result.found ≡ found }
+        ensures superblock { result.superblock ≡ superblock }
+        ensures checkpoint { result.checkpoint ≡ checkpoint }
+        ensures uncut { result.cuts.items ≡ [] }
         ensures whole { (result.failed ≡ false) × (result.full ≡ false) }
         ensures fresh { (result.breaks ≡ 0) × (result.records ≡ 0) }
     {
@@ -51,6 +65,9 @@ impl<D: Presumed> Phys<D> {
             breaks: 0,
             records: 0,
             found,
+            superblock,
+            checkpoint,
+            cuts: History::new(),
         }
     }
 
@@ -69,6 +86,9 @@ impl<D: Presumed> Phys<D> {
             breaks: _,
             records: _,
             found: _,
+            superblock: _,
+            checkpoint: _,
+            cuts: _,
         } = self;
         engine.into_disk()
     }
@@ -93,6 +113,7 @@ impl<D: Presumed> Phys<D> {
         ensures grows { EngineGrows (seen D.told D.presumed D.view self.old) (seen D.told D.presumed D.view self.new) (by 0 0 (Checkpoint 0 live.now)) result }
         ensures hands { HandsOver (length (spelled (by 0 0 (Checkpoint 0 live.now)))) (D.view self.old.engine.disk).handed (waiting_of self.old.engine.log) (D.view self.new.engine.disk).handed (waiting_of self.new.engine.log) result }
         ensures marks { IfOk result (λ lsn. (seen D.told D.presumed D.view self.old).Told → Marks (IsUnwritten self.old.engine.pool) (LogEnds (D.view self.new.engine.disk) self.new.engine.log) lsn) }
+        ensures names { OnOk result ((seen D.told D.presumed D.view self.old).Told → LogNames (D.view self.new.engine.disk) self.new.engine.log live.now) }
         ensures means { Keeps (stands D.told D.presumed D.view self.old) (stands D.told D.presumed D.view self.new) }
         ensures looks { (t : Table) (from : State) → stands D.told D.presumed D.view self.old t from → EngineLooks (RecoversBy t) t (led from (seen D.told D.presumed D.view self.old)) (led from (seen D.told D.presumed D.view self.new)) result }
     {
@@ -113,6 +134,7 @@ impl<D: Presumed> Phys<D> {
                 self.end = self.engine.tail().max(1);
                 self.gate = self.engine.durable();
                 self.records += 1;
+                self.checkpoint = Some(self.tried);
                 Ok(lsn)
             }
             Err(fault) => {

@@ -3,7 +3,7 @@ ghost use Rattle.std.specs.Prelude.{◌≡◌, length};
 
 use crate::Phys;
 use sg_actions::Engine;
-use sg_base::{BandNo, Lsn, PageNo, SlotView, view};
+use sg_base::{BandNo, Lsn, PageNo, SlotView, TxnId, view};
 use sg_disk::Presumed;
 use sg_ops::Ops;
 use sg_phys::{is_log_end, is_no_step, space_fault};
@@ -16,14 +16,15 @@ static NONE: [u8; 32_768] = [0; 32_768];
 
 impl<D: Presumed> Engine for Phys<D> {
     ghost use Rattle.sg_pool.specs.Pooled.{IsUnwritten};
-    ghost use Rattle.sg_phys.specs.Phys.{IsGiven, IsLoaded, IsBandLoaded};
+    ghost use Rattle.sg_phys.specs.Phys.{IsGiven, IsLoaded, IsBandLoaded, IsSpent, first_end, last_in};
     ghost use Rattle.sg_phys.proofs.Causes.{told_on};
-    ghost use Rattle.sg_phys.proofs.Told.{told_now, told_front, told_images, says_fit, says_whole};
+    ghost use Rattle.sg_phys.proofs.Told.{told_now, told_front, told_images, told_wanted, says_fit, says_whole};
+    ghost use Rattle.sg_phys_laws.specs.Reading.{durable_in};
     ghost use Rattle.sg_phys_laws.specs.Recovers.{RecoversBy};
     ghost use Rattle.sg_phys_laws.specs.Waiting.{waiting_of};
     ghost use Rattle.sg_reader.specs.Reader.{limits};
     ghost use Rattle.sg_reader.proofs.Decide.{reader};
-    ghost use Rattle.sg_pages.specs.Marks.{LogEnds, ImageEnds};
+    ghost use Rattle.sg_pages.specs.Marks.{LogEnds, ImageEnds, LogNames};
     ghost use Rattle.sg_pages.specs.Parts.{parts, seen, stands};
 
     ghost limits = { λ pages bands. limits (reader pages bands) };
@@ -40,13 +41,21 @@ impl<D: Presumed> Engine for Phys<D> {
 
     ghost unwritten = { λ s lsn. IsUnwritten s.engine.pool lsn };
 
-    ghost first_byte = { λ s. s.engine.log.base };
+    ghost first_byte = { λ s. s.superblock.base };
+
+    ghost first_frame_end = { λ s. first_end s.superblock.base (durable_in (D.view s.engine.disk) s.engine.log) };
+
+    ghost last_checkpoint = { λ s. last_in (D.view s.engine.disk) s.engine.log };
+
+    ghost is_spent = { λ s. IsSpent s.superblock };
 
     ghost waiting = { λ s. waiting_of s.engine.log };
 
     ghost marked = { λ s. LogEnds (D.view s.engine.disk) s.engine.log };
 
     ghost ends_at = { ImageEnds };
+
+    ghost names = { λ s. LogNames (D.view s.engine.disk) s.engine.log };
 
     ghost told_whole = { λ s told. told.whole };
 
@@ -57,6 +66,8 @@ impl<D: Presumed> Engine for Phys<D> {
     ghost waits = { λ s. s.waits };
 
     ghost changes_on = { λ s told. told_on (IsGiven D.told D.presumed) (parts D.view s) s.some told };
+
+    ghost wanted = { λ s told. told_wanted (IsGiven D.told D.presumed) (parts D.view s) s.some told };
 
     ghost durable_first = { λ s told. told_front (IsGiven D.told D.presumed) (parts D.view s) };
 
@@ -79,7 +90,7 @@ impl<D: Presumed> Engine for Phys<D> {
     }
 
     fn start(&self) -> Lsn {
-        self.engine.base()
+        self.superblock.base
     }
 
     fn is_full(&self) -> bool {
@@ -188,6 +199,25 @@ impl<D: Presumed> Engine for Phys<D> {
 
     fn checkpoint(&mut self, live: &[u8]) -> Result<Lsn, SpaceFault> {
         self.log_checkpoint(live)
+    }
+
+    fn truncate(&mut self, oldest: Option<TxnId>) -> Result<(), SpaceFault> {
+        if self.failed {
+            self.breaks = self.breaks.saturating_add(1);
+            return Err(SpaceFault::Disk);
+        }
+        match self.engine.force() {
+            Ok(()) => {
+                self.end = self.engine.tail().max(1);
+                self.gate = self.engine.durable();
+                self.cut_front(oldest)
+            }
+            Err(_) => {
+                self.failed = true;
+                self.breaks = self.breaks.saturating_add(1);
+                Err(SpaceFault::Disk)
+            }
+        }
     }
 
     fn stop(&mut self) {

@@ -10,6 +10,7 @@
 #![tactic(auto)]
 
 mod calls;
+mod cutting;
 mod engine;
 mod phys;
 

@@ -1,13 +1,25 @@
 // The page engine under the actions.
 ghost use Rattle.std.specs.Prelude.{◌≡◌, ◌≤◌, ◌+◌, true, false, max};
 ghost use Rattle.sg_log.specs.Held.{tail_of};
-ghost use Rattle.sg_phys.specs.Phys.{IsGiven, StandsForSome};
+ghost use Rattle.sg_gate.specs.Superblock.{IsSuper};
+ghost use Rattle.sg_phys.specs.Phys.{IsGiven, StandsForSome, past_of, gone_by, settled};
 
-use sg_base::Lsn;
+use sg_base::{Area, Lsn};
 use sg_disk::Presumed;
 use sg_engine::Engine;
+use sg_gate::Super;
+use sg_history::History;
 use std::alloc::Global;
 use std::snapshot::Snapshot;
+
+// A cut of the log: where it stood, up to where it was durable, and which number it begins with since.
+#[derive(Clone, Copy)]
+pub struct LogCut {
+    pub(crate) area: Area,
+    pub(crate) base: Lsn,
+    pub(crate) gate: Lsn,
+    pub(crate) start: Lsn,
+}
 
 /// A log of page records, and the pages and bands that its records make, over a disk.
 ///
@@ -33,6 +45,12 @@ pub struct Phys<D: Presumed> {
     pub(crate) records: u64,
     // The disk as it was when the store was opened. It has no bytes.
     pub(crate) found: Snapshot<D>,
+    // The superblock that counts now.
+    pub(crate) superblock: Super,
+    // The number of the log's last checkpoint.
+    pub(crate) checkpoint: Option<Lsn>,
+    // The disk before each cut of the log, and what the cut was. It has no bytes.
+    pub(crate) cuts: History<Snapshot<D>, LogCut>,
     ghost ends: { failed ≡ false → end ≡ max (tail_of engine.log) 1 },
     ghost gates: { failed ≡ false → gate ≡ engine.log.gate },
     // What waits to be durable is a frame at most.
@@ -41,5 +59,6 @@ pub struct Phys<D: Presumed> {
     ghost unbroken: { failed ≡ false → breaks ≡ 0 },
     // Each record has a byte.
     ghost counted: { records ≤ end },
-    ghost some: { StandsForSome (IsGiven D.told D.presumed) failed (D.view found.value) (D.view engine.disk) engine.log engine.pool },
+    ghost ranged: { IsSuper superblock },
+    ghost some: { StandsForSome (IsGiven D.told D.presumed) failed (past_of (D.view found.value) superblock (gone_by cuts.items (λ e. D.view e.value) (λ c. settled c.area c.base c.gate) (λ c. c.start)) checkpoint) (D.view engine.disk) engine.log engine.pool },
 }

@@ -32,15 +32,15 @@ use Rattle.sg_actions.specs.Engine.{Extent, EngineSeen, CanLog, IsStepThat, IsLo
 use Rattle.sg_actions.specs.Steps.{Step, Steps, step_by, step_at, repeated}
 use Rattle.sg_phys_laws.specs.Counted.{FailsFor, LiesIn}
 use Rattle.sg_phys_laws.specs.Logged.{is_no_step}
-use Rattle.sg_phys_laws.specs.Poised.{IsPoised}
 use Rattle.sg_phys_laws.specs.Reading.{durable_in, waiting_in}
-use Rattle.sg_phys_laws.specs.Recovers.{IsIn, StepIn, AllIn, origin_of}
+use Rattle.sg_phys_laws.specs.Recovers.{IsIn, StepIn, AllIn}
 use Rattle.sg_phys_laws.specs.States.{steps_of}
 use Rattle.sg_phys_laws.proofs.Cutting.{all_in, below_test}
 use Rattle.sg_phys_laws.proofs.Poised.{all_in_log}
 use Rattle.sg_phys_laws.proofs.ReadBack.{step_stands}
-use Rattle.sg_phys.specs.Phys.{Parts, StandsBy, StandsForSome, Tells, looked, pool_says, seen_by, seen_of}
-use Rattle.sg_phys.proofs.Images.{by_table}
+use Rattle.sg_phys.specs.Phys.{Parts, IsBehind, StandsBy, StandsForSome, Tells, looked, origin_at, pool_says, seen_by}
+use Rattle.sg_phys.proofs.Behind.{step_kept}
+use Rattle.sg_phys.proofs.Images.{by_past}
 use Rattle.sg_phys.proofs.Seen.{HasLooked, keeps_look, looks_ok, HasStood}
 use Rattle.sg_phys.proofs.Told.{told_now}
 use Rattle.std.proofs.Props.{props}
@@ -48,40 +48,49 @@ use Rattle.std.proofs.Props.{props}
 empty_prop : IsProp ⊥
 empty_prop = hlevel props
 
-risen_prop : (a b : ℕ) → IsProp (HasRisen a b)
+pub risen_prop : (a b : ℕ) → IsProp (HasRisen a b)
 risen_prop a b = hlevel props
 
 below_prop : (a b : ℕ) → IsProp (a ≤ b)
 below_prop a b = hlevel props
 
+-- EACH CHANGE THAT WAS APPENDED is of what there is, also those that are gone
+both_on : (x : Extent) (rs gone : Steps) → AllOn x rs → AllOn x gone → AllOn x (rs ++ gone)
+both_on x [] gone here there = there
+both_on x (r ∷ rs) gone here there = (here.0, both_on x rs gone here.1 there)
+
 -- WHERE IT TELLS it stands for some operations, by what it holds
-module _ (Given : Type 0) (p : Parts) (some : StandsForSome Given p.failed p.found p.disk p.log p.pool) where
-  pub by_poised : {P : Type 0} → IsProp P → ((t : Table) (from : State) → StandsBy Given p t from → IsPoised t from (origin_of t (seen_of p.found)) p.disk p.log p.pool → P) → Tells Given p.failed → P
+module _ (Given : Type 0) (p : Parts) (some : StandsForSome Given p.failed p.past p.disk p.log p.pool) where
+  pub by_poised : {P : Type 0} → IsProp P → ((t : Table) (from : State) → StandsBy Given p t from → IsBehind t from p.past p.disk p.log p.pool → P) → Tells Given p.failed → P
   by_poised prop so tell = ∥∥₁_elim (some tell) prop (λ x. ∥∥₁_elim x.2.known prop (λ k. so x.0 x.1 x.2 (k tell.whole tell.tells)))
+
+  -- a step from the log's first byte on is one that it has
+  pub step_here : (t : Table) (from : State) → IsBehind t from p.past p.disk p.log p.pool → (at : ℕ) → p.past.super.base ≤ at → IsSome (step_at (seen_by Given p).steps at) → IsSome (step_at (steps_of (all_in_log p.disk p.log)) at)
+  step_here t from q at high there = subst IsSome (step_kept p.past.super.base (steps_of (all_in_log p.disk p.log)) (steps_of p.past.gone) at high q.below) there
 
   -- a call for a record of what there is fails for the disk alone,
   pub failed_for : (told : Bool) (w : View) (r : Record) (result : Result ℕ EngineFault) → (Given → IsTrue told) → FailsFor told p.disk p.log p.pool w r result → ((t : Table) (from : State) → StandsBy Given p t from → LiesIn (sizes p.pool) (changed_by r.says)) → result ≡ Err engine.Disk
       → Tells Given p.failed → HasRisen p.disk.faults w.faults
   failed_for told w r result given fails lies is tell = by_poised (risen_prop p.disk.faults w.faults)
-      (λ t from m q. fails (origin_of t (seen_of p.found)) (durable_in p.disk p.log) (waiting_in p.log) (given tell.tells) q.now.engine (lies t from m) is) tell
+      (λ t from m q. fails (origin_at t p.past) (durable_in p.disk p.log) (waiting_in p.log) (given tell.tells) q.poised.now.engine (lies t from m) is) tell
 
   -- and so does one that the engine below answers for, by the records that it holds
   pub failed_by : (w : View) → ((o : Origin) (ds ps : List Numbered) → Given → IsEngine o p.disk p.log ds ps p.pool → HasRisen p.disk.faults w.faults) → Tells Given p.failed → HasRisen p.disk.faults w.faults
   failed_by w fails tell = by_poised (risen_prop p.disk.faults w.faults)
-      (λ t from m q. fails (origin_of t (seen_of p.found)) (durable_in p.disk p.log) (waiting_in p.log) tell.tells q.now.engine) tell
+      (λ t from m q. fails (origin_at t p.past) (durable_in p.disk p.log) (waiting_in p.log) tell.tells q.poised.now.engine) tell
 
   -- one that reads a record that is a step
   pub failed_read : (w : View) (at : ℕ) → ((o : Origin) (ds ps : List Numbered) (r : Record) → Given → IsEngine o p.disk p.log ds ps p.pool → StandsAt (ds ++ ps) at r → HasRisen p.disk.faults w.faults)
-      → (Tells Given p.failed → IsSome (step_at (seen_by Given p).steps at)) → Tells Given p.failed → HasRisen p.disk.faults w.faults
-  failed_read w at fails there tell = by_poised (risen_prop p.disk.faults w.faults)
-      (λ t from m q. let s = step_stands (all_in_log p.disk p.log) at (there tell) in
-      fails (origin_of t (seen_of p.found)) (durable_in p.disk p.log) (waiting_in p.log) s.0 tell.tells q.now.engine s.1) tell
+      → (Tells Given p.failed → IsSome (step_at (seen_by Given p).steps at)) → (Tells Given p.failed → p.past.super.base ≤ at) → Tells Given p.failed → HasRisen p.disk.faults w.faults
+  failed_read w at fails there high tell = by_poised (risen_prop p.disk.faults w.faults)
+      (λ t from m q. let s = step_stands (all_in_log p.disk p.log) at (step_here t from q at (high tell) (there tell)) in
+      fails (origin_at t p.past) (durable_in p.disk p.log) (waiting_in p.log) s.0 tell.tells q.poised.now.engine s.1) tell
 
   -- the number from which history has to be repeated is no greater than the tail
   pub point_low : (k : ℕ) → IsUnwritten p.pool k ⊎ (((lsn : ℕ) → IsUnwritten p.pool lsn → ⊥) × (k ≡ tail_of p.log)) → Tells Given p.failed → k ≤ tail_of p.log
   point_low k is tell = by_poised (below_prop k (tail_of p.log))
       (λ t from m q. ⊎_elim
-      (λ unwritten. unwritten_low (origin_of t (seen_of p.found)) p.disk p.log (durable_in p.disk p.log) (waiting_in p.log) p.pool k q.now.engine unwritten)
+      (λ unwritten. unwritten_low (origin_at t p.past) p.disk p.log (durable_in p.disk p.log) (waiting_in p.log) p.pool k q.poised.now.engine unwritten)
       (λ none. let e = none.1 in omega (arith, e))
       is) tell
 
@@ -122,7 +131,7 @@ pub can_plain : (Given : Type 0) (p : Parts) (t : Table) (Means : Type 0) (r : R
 can_plain Given p t Means r can is tell = plain_by (IsLoggable t Means (seen_by Given p)) r.transaction r.previous r.says (can tell) is
 
 -- where that is asked for each table, and it stands for some
-pub never_marks : (Given : Type 0) (p : Parts) (Means : Type 0) (r : Record) → StandsForSome Given p.failed p.found p.disk p.log p.pool → ((t : Table) (from : State) → StandsBy Given p t from → CanLog t Means (seen_by Given p) r) → is_no_step r.says ≡ true → Tells Given p.failed → ⊥
+pub never_marks : (Given : Type 0) (p : Parts) (Means : Type 0) (r : Record) → StandsForSome Given p.failed p.past p.disk p.log p.pool → ((t : Table) (from : State) → StandsBy Given p t from → CanLog t Means (seen_by Given p) r) → is_no_step r.says ≡ true → Tells Given p.failed → ⊥
 never_marks Given p Means r some can is tell = ∥∥₁_elim (some tell) empty_prop (λ x. can_plain Given p x.0 Means r (can x.0 x.1 x.2) is tell)
 
 -- A PAGE THAT SAYS SOMETHING is one of the store
@@ -155,7 +164,7 @@ pub lost_leaf : (page : List ℕ) → is_slotted page ≡ false → IsSome (leaf
 lost_leaf page none some = let same = leaf_some page in cc
 
 -- and says the same behind a call that appended nothing
-pub page_kept : (Given : Type 0) (p : Parts) (w : View) (log : Tail) (pool : Pool) (n : ℕ) → StandsForSome Given p.failed p.found p.disk p.log p.pool → HasLooked Given p w log pool → HasStood Given p w → (Tells Given p.failed → HasPage (seen_by Given p) n)
+pub page_kept : (Given : Type 0) (p : Parts) (w : View) (log : Tail) (pool : Pool) (n : ℕ) → StandsForSome Given p.failed p.past p.disk p.log p.pool → HasLooked Given p w log pool → HasStood Given p w → (Tells Given p.failed → HasPage (seen_by Given p) n)
     → (IsSome (leaf_of ((contents w pool).page n)) → ⊥) → Tells Given p.failed → ⊥
 page_kept Given p w log pool n some did stood has lost tell = ∥∥₁_elim (some tell) empty_prop (λ x.
     let q : Parts = looked p w log pool p.end p.gate in
@@ -206,10 +215,13 @@ all_prop : (x : Extent) (rs : Steps) → IsProp (AllOn x rs)
 all_prop x [] = hlevel props
 all_prop x (r ∷ rs) = let one = step_prop x r.is in let more = all_prop x rs in hlevel (props, one, more)
 
-pub told_on : (Given : Type 0) (p : Parts) → StandsForSome Given p.failed p.found p.disk p.log p.pool → Tells Given p.failed → AllOn (seen_by Given p).extent (seen_by Given p).steps
+pub told_on : (Given : Type 0) (p : Parts) → StandsForSome Given p.failed p.past p.disk p.log p.pool → Tells Given p.failed → AllOn (seen_by Given p).extent (seen_by Given p).steps
 told_on Given p some tell = by_poised Given p some (all_prop (seen_by Given p).extent (seen_by Given p).steps)
     (λ t from m q.
-    let o : Origin = origin_of t (seen_of p.found) in
-    let sizes_are = q.now.engine.sizes in
-    all_on o.super (seen_by Given p).extent (sym (ap (λ (g : Geometry). g.pages) sizes_are)) (sym (ap (λ (g : Geometry). g.bands) sizes_are)) (steps_of (all_in_log p.disk p.log))
-    (all_in o t (all_in_log p.disk p.log) (by_table t (seen_of p.found)) q.now.engine.engine.history.there)) tell
+    let o : Origin = origin_at t p.past in
+    let sizes_are = q.poised.now.engine.sizes in
+    let pages = sym (ap (λ (g : Geometry). g.pages) sizes_are) in
+    let bands = sym (ap (λ (g : Geometry). g.bands) sizes_are) in
+    both_on (seen_by Given p).extent (steps_of (all_in_log p.disk p.log)) (steps_of p.past.gone)
+    (all_on o.super (seen_by Given p).extent pages bands (steps_of (all_in_log p.disk p.log)) (all_in o t (all_in_log p.disk p.log) (by_past t p.past) q.poised.now.engine.engine.history.there))
+    (all_on o.super (seen_by Given p).extent pages bands (steps_of p.past.gone) q.within)) tell

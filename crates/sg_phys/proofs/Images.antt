@@ -16,20 +16,24 @@ use Rattle.sg_engine.specs.Effects.{IsBy}
 use Rattle.sg_engine.specs.History.{Entry, IsHistory, IsSound, repeated_from}
 use Rattle.sg_engine.specs.Kept.{home_in}
 use Rattle.sg_engine.specs.Engine.{Origin, entries, geometry, log_area}
-use Rattle.sg_actions.specs.Images.{IsImageOf}
 use Rattle.sg_actions.specs.Steps.{Steps, repeated}
 use Rattle.sg_phys_laws.specs.Known.{IsEnough}
 use Rattle.sg_phys_laws.specs.Points.{redo_point}
 use Rattle.sg_phys_laws.specs.Reading.{frames_read}
 use Rattle.sg_phys_laws.specs.Recovers.{cut_at, super_of, origin_of, records_in, point_in, said_in, IsSoundImage, Recovers, RecoversBy}
 use Rattle.sg_phys_laws.specs.States.{state_of, steps_of}
+use Rattle.sg_phys_laws.specs.Whole.{IsWholeImageOf}
 use Rattle.sg_phys_laws.proofs.Sets.{code_set, steps_set, state_set}
+use Rattle.sg_phys.specs.Phys.{Past, origin_at}
 
 -- what records do by a table is what the table says
 pub by_table : (t : Table) (c : Image) → IsBy t (origin_of t c)
 by_table t c = record { says = λ lsn r. refl }
 
-entries_same : (o p : Origin) → ((lsn : ℕ) (r : Record) → o.effect lsn r ≡ p.effect lsn r) → (ns : List Numbered) → entries o ns ≡ entries p ns
+pub by_past : (t : Table) (q : Past) → IsBy t (origin_at t q)
+by_past t q = record { says = λ lsn r. refl }
+
+pub entries_same : (o p : Origin) → ((lsn : ℕ) (r : Record) → o.effect lsn r ≡ p.effect lsn r) → (ns : List Numbered) → entries o ns ≡ entries p ns
 entries_same o p same [] = refl
 entries_same o p same (n ∷ ns) = λ i. record { lsn = n.lsn; effect = same n.lsn n.is i } ∷ entries_same o p same ns i
 
@@ -80,5 +84,5 @@ holds_by t o c front x by r =
           subst (IsEnough t p.super.base) (records_same o p c e) (subst (λ (u : Super). IsEnough t u.base (records_in o c)) e r.registered));
     }
 
-pub image_by : (t : Table) (o : Origin) (first : State) (durable log : Steps) (c : Image) → IsBy t o → IsImageOf (Recovers t o) t first durable log c → IsImageOf (RecoversBy t) t first durable log c
+pub image_by : (t : Table) (o : Origin) (first : State) (durable log : Steps) (c : Image) → IsBy t o → IsWholeImageOf (Recovers t o) t first durable log c → IsWholeImageOf (RecoversBy t) t first durable log c
 image_by t o first durable log c by m = record { front = m.front; is_front = m.is_front; recovers = record { holds = holds_by t o c m.front (repeated t first m.front) by m.recovers; leads = (first, refl) } }

@@ -1,5 +1,10 @@
 pub mod Images
+pub mod Behind
+pub mod Lasts
 pub mod Told
 pub mod Asked
 pub mod Seen
 pub mod Causes
+pub mod Cuts
+pub mod Cutting
+pub mod Then

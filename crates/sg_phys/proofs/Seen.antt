@@ -1,6 +1,6 @@
 -- What a call says of what the engine shows.
 use Rattle.std.proofs.Common.{◌≡◌, inl, inr, ⊎_elim, ◌<◌, ◌≤◌, ◌+◌, ℕ, Bool, true, false, List, [], ◌∷◌, ◌++◌, length, Option, None, refl, sym, ap, ◌∙◌, subst, arith}
-use Rattle.std.specs.Prelude.{Result, Ok, Err}
+use Rattle.std.specs.Prelude.{Result, Ok, Err, option_map}
 use mathlib.Core.Logic.{∥∥₁_elim, ∥∥₁_prop}
 use Rattle.sg_base.specs.Ends.{HasRisen}
 use Rattle.sg_disk.specs.Accounts.{Accounts}
@@ -28,22 +28,27 @@ use Rattle.sg_engine.specs.declared.fault.EngineFault.TheVariants as engine
 use Rattle.sg_actions.specs.Engine.{Extent, EngineCounts, EngineRests, EngineGrows, EngineLooks, Logs, Moments, IsForced, Keeps, led}
 use Rattle.sg_actions.specs.Handing.{makes_change, HandsOver}
 use Rattle.sg_actions.specs.Images.{Grows, IsImageOf}
-use Rattle.sg_actions.specs.Steps.{Step, Steps, step_of, with_step}
+use Rattle.sg_actions.specs.Steps.{Step, Steps, step_of, with_step, repeated}
+use Rattle.sg_analysis.specs.Sights.{last_checkpoint}
+use Rattle.sg_recovery.specs.Log.{tally}
 use Rattle.sg_phys_laws.specs.Counted.{HasCounted}
 use Rattle.sg_phys_laws.specs.Faults.{space_fault, is_log_end}
 use Rattle.sg_phys_laws.specs.Logged.{HasLogged, HasRun, HasRested, Stood, at_number, is_no_step}
 use Rattle.sg_phys_laws.specs.Points.{IsMarked, IsLatest}
-use Rattle.sg_phys_laws.specs.Poised.{IsPoised}
 use Rattle.sg_phys_laws.specs.Reading.{durable_in, waiting_in}
-use Rattle.sg_phys_laws.specs.Recovers.{origin_of, Recovers, RecoversBy}
+use Rattle.sg_phys_laws.specs.Recovers.{super_in, Recovers, RecoversBy}
 use Rattle.sg_phys_laws.specs.States.{steps_of}
+use Rattle.sg_phys_laws.specs.Whole.{IsWholeImageOf}
 use Rattle.sg_phys_laws.proofs.Fronting.{one_more}
 use Rattle.sg_phys_laws.proofs.Poised.{all_in_log, Behind, behind_rest, behind_record, marked_plain, rest_images, record_images, none_stood, forced_all}
+use Rattle.sg_phys_laws.proofs.Fore.{with_behind}
 use Rattle.sg_phys_laws.proofs.Recovered.{grows_fix, image_fix, image_more, leaves_fix}
-use Rattle.sg_phys_laws.proofs.Sets.{steps_set}
+use Rattle.sg_phys_laws.proofs.Sets.{steps_set, tally_set}
 use Rattle.sg_phys_laws.proofs.Stepping.{steps_more}
-use Rattle.sg_phys.specs.Phys.{Parts, Stands, StandsBy, StandsForSome, Tells, looked, appended, broken, stopped, seen_by, seen_of}
-use Rattle.sg_phys.proofs.Images.{by_table, image_by}
+use Rattle.sg_phys.specs.Phys.{Parts, Past, IsBehind, Stands, StandsBy, StandsForSome, Tells, looked, appended, broken, stopped, seen_by, seen_of, origin_at}
+use Rattle.sg_phys.proofs.Behind.{grows_behind, says_more, image_behind, formed_here}
+use Rattle.sg_phys.proofs.Images.{by_past, image_by}
+use Rattle.sg_phys.proofs.Lasts.{last_plain}
 
 not_both : {P : Type 0} (b : Bool) → b ≡ true → b ≡ false → P
 not_both b t f = absurd cc
@@ -234,17 +239,24 @@ none_made Given p o tells e = none_stood o p.disk p.log (durable_in p.disk p.log
 
 -- it ran for a record of this number,
 abbrev pub HasRunFor : (Given : Type 0) → Parts → View → Tail → Pool → Record → ℕ → Result ℕ EngineFault → Table → State → Type 0
-HasRunFor Given p w log pool r lsn result t from = Given → IsPoised t from (origin_of t (seen_of p.found)) p.disk p.log p.pool
-    → HasRun t (origin_of t (seen_of p.found)) p.disk w p.log log p.pool pool (durable_in p.disk p.log) (all_in_log p.disk p.log) r lsn result
+HasRunFor Given p w log pool r lsn result t from = Given → IsBehind t from p.past p.disk p.log p.pool
+    → HasRun t (origin_at t p.past) p.disk w p.log log p.pool pool (durable_in p.disk p.log) (all_in_log p.disk p.log) r lsn result
 
 -- and logged it
 abbrev pub HasLoggedIt : (Given : Type 0) → Parts → View → Tail → Pool → Record → ℕ → Table → State → Type 0
-HasLoggedIt Given p w log pool r lsn t from = Given → IsPoised t from (origin_of t (seen_of p.found)) p.disk p.log p.pool
-    → HasLogged t (origin_of t (seen_of p.found)) w log (durable_in p.disk p.log) (all_in_log p.disk p.log) r lsn pool
+HasLoggedIt Given p w log pool r lsn t from = Given → IsBehind t from p.past p.disk p.log p.pool
+    → HasLogged t (origin_at t p.past) w log (durable_in p.disk p.log) (all_in_log p.disk p.log) r lsn pool
 
 module _ (Given : Type 0) (p : Parts) (w : View) (log : Tail) (pool : Pool) (t : Table) (from : State) (m : StandsBy Given p t from) where
   abbrev o : Origin
-  o = origin_of t (seen_of p.found)
+  o = origin_at t p.past
+
+  abbrev gone : Steps
+  gone = steps_of p.past.gone
+
+  -- what the log that it has leads from
+  abbrev from' : State
+  from' = repeated t from gone
 
   abbrev ds : List Numbered
   ds = durable_in p.disk p.log
@@ -253,36 +265,63 @@ module _ (Given : Type 0) (p : Parts) (w : View) (log : Tail) (pool : Pool) (t :
   all = all_in_log p.disk p.log
 
   abbrev is_by : IsBy t o
-  is_by = by_table t (seen_of p.found)
+  is_by = by_past t p.past
 
-  -- it stands for the same still,
-  stands_behind : (ns : List Numbered) → (Given → IsPoised t from o p.disk p.log p.pool → Behind t from o p.disk w p.log log pool ns) → Stands Given p.failed p.found w log pool t from
-  stands_behind ns does = record { lawful = m.lawful; known = ∥∥₁_elim m.known ∥∥₁_prop (λ k. ∣ (λ whole tells. (does tells (k whole tells)).poised) ∣₁) }
+  -- it stands for the same still, with this last checkpoint,
+  pub behind_then : (k : Option ℕ) (ns : List Numbered) → k ≡ option_map (λ c. c.0) (last_checkpoint ns) → IsBehind t from p.past p.disk p.log p.pool → Behind t from' o p.disk w p.log log pool ns → IsBehind t from (record p.past { checkpoint = k }) w log pool
+  behind_then k ns last q h = record {
+    poised = h.poised;
+    says = says_more gone (steps_of ds) (steps_of (durable_in w log)) h.durable q.says;
+    below = q.below;
+    within = q.within;
+    later = q.later;
+    last = last ∙ ap (λ (l : List Numbered). option_map (λ c. c.0) (last_checkpoint l)) (sym h.whole);
+  }
+
+  stands_behind : (k : Option ℕ) (ns : List Numbered) → (Given → IsBehind t from p.past p.disk p.log p.pool → k ≡ option_map (λ c. c.0) (last_checkpoint ns))
+      → (Given → IsBehind t from p.past p.disk p.log p.pool → Behind t from' o p.disk w p.log log pool ns) → Stands Given p.failed (record p.past { checkpoint = k }) w log pool t from
+  stands_behind k ns last does = record { lawful = m.lawful; known = ∥∥₁_elim m.known ∥∥₁_prop (λ x. ∣ (λ whole tells. let q = x whole tells in behind_then k ns (last tells q) q (does tells q)) ∣₁) }
 
   -- also where it has failed
-  pub keeps_broken : Stands Given true p.found w log pool t from
+  pub keeps_broken : Stands Given true p.past w log pool t from
   keeps_broken = record { lawful = m.lawful; known = ∣ (λ e. not_true e) ∣₁ }
 
-  rested : HasLooked Given p w log pool → Given → IsPoised t from o p.disk p.log p.pool → Behind t from o p.disk w p.log log pool all
-  rested did tells q = behind_rest t from o p.disk w p.log log p.pool pool is_by q (did o tells q.now.engine)
+  rested : HasLooked Given p w log pool → Given → IsBehind t from p.past p.disk p.log p.pool → Behind t from' o p.disk w p.log log pool all
+  rested did tells q = behind_rest t from' o p.disk w p.log log p.pool pool is_by q.poised (did o tells q.poised.now.engine)
 
-  pub keeps_look : HasLooked Given p w log pool → Stands Given p.failed p.found w log pool t from
-  keeps_look did = stands_behind all (rested did)
+  pub keeps_look : HasLooked Given p w log pool → Stands Given p.failed p.past w log pool t from
+  keeps_look did = stands_behind p.past.checkpoint all (λ tells q. q.last) (rested did)
+
+  -- what the log that it has says, where it tells
+  says_here : Tells Given p.failed → tally (steps_of ds) ≡ tally (steps_of ds ++ gone)
+  says_here tell = ∥∥₁_elim m.known (tally_set (tally (steps_of ds)) (tally (steps_of ds ++ gone))) (λ k. (k tell.whole tell.tells).says)
+
+  -- its images, as those of the log with what is gone
+  images_here : (q : Parts) (log' : Steps) → q.disk ≡ w → Tells Given p.failed → (Given → IsBehind t from p.past p.disk p.log p.pool → LeavesOnly p.disk w (IsWholeImageOf (Recovers t o) t from' (steps_of ds) log'))
+      → Moments (RecoversBy t) t (led from (seen_by Given p)) (led from (seen_by Given q)) (log' ++ gone)
+  images_here q log' is tell run = subst (λ (v : View). LeavesOnly p.disk v (IsImageOf (RecoversBy t) t from (steps_of ds ++ gone) (log' ++ gone))) (sym is)
+      (weaker
+      (leaves_fix p.disk w (IsWholeImageOf (Recovers t o) t from' (steps_of ds) log') (image_fix o t from' (steps_of ds) log')
+      (∥∥₁_elim m.known ∥∥₁_prop (λ k. ∣ run tell.tells (k tell.whole tell.tells) ∣₁)))
+      (λ c image. image_behind t from gone (steps_of ds) log' c (says_here tell) (image_by t o from' (steps_of ds) log' c is_by image)))
 
   -- the images of a look
-  look_moments : (q : Parts) → q.disk ≡ w → HasStood Given p w → Tells Given p.failed → Moments (RecoversBy t) t (led from (seen_by Given p)) (led from (seen_by Given q)) (steps_of all)
-  look_moments q is stood tell = subst (λ (v : View). LeavesOnly p.disk v (IsImageOf (RecoversBy t) t from (steps_of ds) (steps_of all))) (sym is)
-      (weaker
-      (leaves_fix p.disk w (IsImageOf (Recovers t o) t from (steps_of ds) (steps_of all)) (image_fix o t from (steps_of ds) (steps_of all))
-      (∥∥₁_elim m.known ∥∥₁_prop (λ k. let q = k tell.whole tell.tells in ∣ rest_images t from o p.disk w p.log p.pool is_by q (stood o tell.tells q.now.engine) ∣₁)))
-      (λ c image. image_by t o from (steps_of ds) (steps_of all) c is_by image))
+  look_moments : (q : Parts) → q.disk ≡ w → HasStood Given p w → Tells Given p.failed → Moments (RecoversBy t) t (led from (seen_by Given p)) (led from (seen_by Given q)) (steps_of all ++ gone)
+  look_moments q is stood tell = images_here q (steps_of all) is tell (λ tells b. rest_images t from' o p.disk w p.log p.pool is_by b.poised (stood o tells b.poised.now.engine))
+
+  -- what is behind a call, by its records
+  steps_then' : (xs ys : Steps) → xs ≡ ys → xs ++ gone ≡ ys ++ gone
+  steps_then' xs ys e = ap (λ (l : Steps). l ++ gone) e
+
+  durable_by : (ns : List Numbered) → (Given → IsBehind t from p.past p.disk p.log p.pool → Behind t from' o p.disk w p.log log pool ns) → Tells Given p.failed → Grows (steps_of ds ++ gone) (steps_of (durable_in w log) ++ gone)
+  durable_by ns does s = grows_behind gone (steps_of ds) (steps_of (durable_in w log)) (grows_fix (steps_of ds) (steps_of (durable_in w log)) (∥∥₁_elim m.known ∥∥₁_prop (λ k. ∣ (does s.tells (k s.whole s.tells)).durable ∣₁)))
 
   -- A LOOK THAT ANSWERS
   pub looks_ok : {T : Type 0} (x : T) (end gate : ℕ) → HasLooked Given p w log pool → HasStood Given p w → EngineLooks (RecoversBy t) t (led from (seen_by Given p)) (led from (seen_by Given (looked p w log pool end gate))) (Ok x)
   looks_ok x end gate did stood = record {
     stays = λ s. record {
-      steps = ∥∥₁_elim m.known (steps_set (steps_of (all_in_log w log)) (steps_of all)) (λ k. (rested did s.tells (k s.whole s.tells)).steps);
-      durable = grows_fix (steps_of ds) (steps_of (durable_in w log)) (∥∥₁_elim m.known ∥∥₁_prop (λ k. ∣ (rested did s.tells (k s.whole s.tells)).durable ∣₁));
+      steps = steps_then' (steps_of (all_in_log w log)) (steps_of all) (∥∥₁_elim m.known (steps_set (steps_of (all_in_log w log)) (steps_of all)) (λ k. (rested did s.tells (k s.whole s.tells)).steps));
+      durable = durable_by all (rested did) s;
     };
     moments = look_moments (looked p w log pool end gate) refl stood;
   }
@@ -293,75 +332,70 @@ module _ (Given : Type 0) (p : Parts) (w : View) (log : Tail) (pool : Pool) (t :
 
   -- A CALL FOR A RECORD
   module _ (r : Record) (lsn : ℕ) where
-    module _ (mark : Given → IsPoised t from o p.disk p.log p.pool → IsMarked (IsLatest (IsAllowed o p.disk p.log p.pool) (tail_of p.log)) lsn r.says)
-        (formed : Given → IsPoised t from o p.disk p.log p.pool → ∥ IsLog o.super.base (with_step (steps_of all) lsn (step_of r)) ∥₁) where
+    abbrev more : List Numbered
+    more = all ++ at_number lsn r ∷ []
+
+    module _ (mark : Given → IsBehind t from p.past p.disk p.log p.pool → IsMarked (IsLatest (IsAllowed o p.disk p.log p.pool) (tail_of p.log)) lsn r.says)
+        (formed : Given → IsBehind t from p.past p.disk p.log p.pool → ∥ IsLog o.super.base (with_step (steps_of all) lsn (step_of r)) ∥₁)
+        (last : Given → IsBehind t from p.past p.disk p.log p.pool → p.past.checkpoint ≡ option_map (λ c. c.0) (last_checkpoint more)) where
       record_moments : (q : Parts) (result : Result ℕ EngineFault) → q.disk ≡ w → HasRunFor Given p w log pool r lsn result t from → Tells Given p.failed
-          → Moments (RecoversBy t) t (led from (seen_by Given p)) (led from (seen_by Given q)) (with_step (steps_of all) lsn (step_of r))
+          → Moments (RecoversBy t) t (led from (seen_by Given p)) (led from (seen_by Given q)) (with_step (steps_of all ++ gone) lsn (step_of r))
       record_moments q result is run tell =
-          let rs : Steps = with_step (steps_of all) lsn (step_of r) in
-          subst (λ (v : View). LeavesOnly p.disk v (IsImageOf (RecoversBy t) t from (steps_of ds) rs)) (sym is)
-          (weaker
-          (leaves_fix p.disk w (IsImageOf (Recovers t o) t from (steps_of ds) rs) (image_fix o t from (steps_of ds) rs)
-          (∥∥₁_elim m.known ∥∥₁_prop (λ k. let q = k tell.whole tell.tells in ∣ record_images t from o p.disk w p.log log p.pool pool r lsn result is_by q (mark tell.tells q) (formed tell.tells q) (run tell.tells q) ∣₁)))
-          (λ c image. image_by t o from (steps_of ds) rs c is_by image))
+          subst (λ (rs : Steps). Moments (RecoversBy t) t (led from (seen_by Given p)) (led from (seen_by Given q)) rs) (sym (with_behind (steps_of all) gone lsn (step_of r)))
+          (images_here q (with_step (steps_of all) lsn (step_of r)) is tell
+          (λ tells b. record_images t from' o p.disk w p.log log p.pool pool r lsn result is_by b.poised (mark tells b) (formed tells b) (run tells b)))
 
       -- that is appended,
       module _ (m' : ℕ) (run : HasRunFor Given p w log pool r lsn (Ok m') t from) (logged : HasLoggedIt Given p w log pool r lsn t from) where
-        behind : Given → IsPoised t from o p.disk p.log p.pool → Behind t from o p.disk w p.log log pool (all ++ at_number lsn r ∷ [])
-        behind tells q = let h = run tells q in behind_record t from o p.disk w p.log log p.pool pool r lsn is_by q (mark tells q) (formed tells q) h.registered (logged tells q) h.allowed
+        behind : Given → IsBehind t from p.past p.disk p.log p.pool → Behind t from' o p.disk w p.log log pool more
+        behind tells q = let h = run tells q in behind_record t from' o p.disk w p.log log p.pool pool r lsn is_by q.poised (mark tells q) (formed tells q) h.registered (logged tells q) h.allowed
 
-        pub keeps_mark : Stands Given p.failed p.found w log pool t from
-        keeps_mark = stands_behind (all ++ at_number lsn r ∷ []) behind
+        pub keeps_mark : Stands Given p.failed p.past w log pool t from
+        keeps_mark = stands_behind p.past.checkpoint more last behind
 
-        steps_then : Tells Given p.failed → steps_of (all_in_log w log) ≡ with_step (steps_of all) lsn (step_of r)
-        steps_then s = ∥∥₁_elim m.known (steps_set (steps_of (all_in_log w log)) (with_step (steps_of all) lsn (step_of r))) (λ k. (behind s.tells (k s.whole s.tells)).steps ∙ steps_more all (at_number lsn r))
+        steps_then : Tells Given p.failed → steps_of (all_in_log w log) ++ gone ≡ with_step (steps_of all ++ gone) lsn (step_of r)
+        steps_then s = steps_then' (steps_of (all_in_log w log)) (with_step (steps_of all) lsn (step_of r))
+            (∥∥₁_elim m.known (steps_set (steps_of (all_in_log w log)) (with_step (steps_of all) lsn (step_of r))) (λ k. (behind s.tells (k s.whole s.tells)).steps ∙ steps_more all (at_number lsn r)))
+            ∙ sym (with_behind (steps_of all) gone lsn (step_of r))
 
-        durable_then : Tells Given p.failed → Grows (steps_of ds) (steps_of (durable_in w log))
-        durable_then s = grows_fix (steps_of ds) (steps_of (durable_in w log)) (∥∥₁_elim m.known ∥∥₁_prop (λ k. ∣ (behind s.tells (k s.whole s.tells)).durable ∣₁))
+        durable_then : Tells Given p.failed → Grows (steps_of ds ++ gone) (steps_of (durable_in w log) ++ gone)
+        durable_then s = durable_by more behind s
 
         mark_logs : (n end gate count : ℕ) → n ≡ lsn → p.end ≤ lsn → Logs (RecoversBy t) t (led from (seen_by Given p)) (led from (seen_by Given (appended p w log pool end gate lsn count))) r (Ok n)
         mark_logs n end gate count number above = record {
-          did = λ s. record { steps = steps_then s ∙ ap (λ (k : ℕ). with_step (steps_of all) k (step_of r)) (sym number); durable = durable_then s };
+          did = λ s. record { steps = steps_then s ∙ ap (λ (k : ℕ). with_step (steps_of all ++ gone) k (step_of r)) (sym number); durable = durable_then s };
           above = λ s. above;
           moments = record_moments (appended p w log pool end gate lsn count) (Ok m') refl run;
         }
 
-        -- A RECORD THAT IS NO STEP, a checkpoint
-        pub mark_looks : {A : Type 0} (x : A) (end gate count : ℕ) → step_of r ≡ None → EngineLooks (RecoversBy t) t (led from (seen_by Given p)) (led from (seen_by Given (appended p w log pool end gate lsn count))) (Ok x)
-        mark_looks x end gate count none = record {
-          stays = λ s. record { steps = steps_then s ∙ ap (λ (x : Option Step). with_step (steps_of all) lsn x) none; durable = durable_then s };
-          moments = λ s. subst (λ (x : Option Step). LeavesOnly p.disk w (IsImageOf (RecoversBy t) t from (steps_of ds) (with_step (steps_of all) lsn x))) none (record_moments (appended p w log pool end gate lsn count) (Ok m') refl run s);
-        }
-
       -- or whose call fails
-      pub mark_looks_err : {A : Type 0} (e : SpaceFault) (result : Result ℕ EngineFault) (b : ℕ) (f : Bool) → step_of r ≡ None → HasRunFor Given p w log pool r lsn result t from
-          → EngineLooks {T = A} (RecoversBy t) t (led from (seen_by Given p)) (led from (seen_by Given (broken p w log pool lsn b f))) (Err e)
-      mark_looks_err e result b f none run = record {
-        stays = tt;
-        moments = λ s. subst (λ (x : Option Step). LeavesOnly p.disk w (IsImageOf (RecoversBy t) t from (steps_of ds) (with_step (steps_of all) lsn x))) none (record_moments (broken p w log pool lsn b f) result refl run s);
-      }
-
       mark_logs_err : (e : SpaceFault) (result : Result ℕ EngineFault) (b : ℕ) (f : Bool) → p.end ≤ lsn → HasRunFor Given p w log pool r lsn result t from → Logs (RecoversBy t) t (led from (seen_by Given p)) (led from (seen_by Given (broken p w log pool lsn b f))) r (Err e)
       mark_logs_err e result b f above run = record { did = tt; above = λ s. above; moments = record_moments (broken p w log pool lsn b f) result refl run }
 
-    -- the log is formed with the record
+    -- the log with what is gone is formed with the record, which stands at the end of the log or behind it
     abbrev IsFormedThen : Type 0
-    IsFormedThen = Given → ∥ IsLog o.super.base (with_step (steps_of all) lsn (step_of r)) ∥₁
+    IsFormedThen = Given → (tail_of p.log ≤ lsn) × ∥ IsLog (super_in (seen_of p.past.found)).base (with_step (steps_of all ++ gone) lsn (step_of r)) ∥₁
 
     -- no other record marks anything
-    plain_mark : is_no_step r.says ≡ false → Given → IsPoised t from o p.disk p.log p.pool → IsMarked (IsLatest (IsAllowed o p.disk p.log p.pool) (tail_of p.log)) lsn r.says
+    plain_mark : is_no_step r.says ≡ false → Given → IsBehind t from p.past p.disk p.log p.pool → IsMarked (IsLatest (IsAllowed o p.disk p.log p.pool) (tail_of p.log)) lsn r.says
     plain_mark plain tells q = marked_plain (IsLatest (IsAllowed o p.disk p.log p.pool) (tail_of p.log)) lsn r.says plain
 
-    pub keeps_record : (n : ℕ) → is_no_step r.says ≡ false → IsFormedThen → HasRunFor Given p w log pool r lsn (Ok n) t from → HasLoggedIt Given p w log pool r lsn t from → Stands Given p.failed p.found w log pool t from
-    keeps_record n plain formed run logged = keeps_mark (plain_mark plain) (λ tells q. formed tells) n run logged
+    plain_formed : IsFormedThen → Given → IsBehind t from p.past p.disk p.log p.pool → ∥ IsLog o.super.base (with_step (steps_of all) lsn (step_of r)) ∥₁
+    plain_formed formed tells q = let f = formed tells in formed_here t from p.past p.disk p.log p.pool q lsn (step_of r) f.0 f.1
+
+    plain_last : is_no_step r.says ≡ false → Given → IsBehind t from p.past p.disk p.log p.pool → p.past.checkpoint ≡ option_map (λ c. c.0) (last_checkpoint more)
+    plain_last plain tells q = q.last ∙ ap (option_map (λ c. c.0)) (sym (last_plain all lsn r plain))
+
+    pub keeps_record : (n : ℕ) → is_no_step r.says ≡ false → IsFormedThen → HasRunFor Given p w log pool r lsn (Ok n) t from → HasLoggedIt Given p w log pool r lsn t from → Stands Given p.failed p.past w log pool t from
+    keeps_record n plain formed run logged = keeps_mark (plain_mark plain) (plain_formed formed) (plain_last plain) n run logged
 
     pub logs_ok : (n end gate count : ℕ) → n ≡ lsn → p.end ≤ lsn → is_no_step r.says ≡ false → IsFormedThen → HasRunFor Given p w log pool r lsn (Ok n) t from → HasLoggedIt Given p w log pool r lsn t from
         → Logs (RecoversBy t) t (led from (seen_by Given p)) (led from (seen_by Given (appended p w log pool end gate lsn count))) r (Ok n)
-    logs_ok n end gate count number above plain formed run logged = mark_logs (plain_mark plain) (λ tells q. formed tells) n run logged n end gate count number above
+    logs_ok n end gate count number above plain formed run logged = mark_logs (plain_mark plain) (plain_formed formed) (plain_last plain) n run logged n end gate count number above
 
     pub logs_err : (e : SpaceFault) (result : Result ℕ EngineFault) (b : ℕ) (f : Bool) → p.end ≤ lsn → is_no_step r.says ≡ false → IsFormedThen → HasRunFor Given p w log pool r lsn result t from
         → Logs (RecoversBy t) t (led from (seen_by Given p)) (led from (seen_by Given (broken p w log pool lsn b f))) r (Err e)
-    logs_err e result b f above plain formed run = mark_logs_err (plain_mark plain) (λ tells q. formed tells) e result b f above run
+    logs_err e result b f above plain formed run = mark_logs_err (plain_mark plain) (plain_formed formed) (plain_last plain) e result b f above run
 
     -- one that is refused with no call for it
     pub logs_refused : (e : SpaceFault) (b : ℕ) → p.end ≤ lsn → HasStood Given p w → Logs (RecoversBy t) t (led from (seen_by Given p)) (led from (seen_by Given (broken p w log pool lsn b p.full))) r (Err e)
@@ -369,24 +403,28 @@ module _ (Given : Type 0) (p : Parts) (w : View) (log : Tail) (pool : Pool) (t :
       did = tt;
       above = λ s. above;
       moments = λ s. weaker (look_moments (broken p w log pool lsn b p.full) refl stood s)
-          (λ c image. image_more (RecoversBy t) t from (steps_of ds) (steps_of all) (with_step (steps_of all) lsn (step_of r)) c (one_more (steps_of all) lsn (step_of r)) image);
+          (λ c image. image_more (RecoversBy t) t from (steps_of ds ++ gone) (steps_of all ++ gone) (with_step (steps_of all ++ gone) lsn (step_of r)) c (one_more (steps_of all ++ gone) lsn (step_of r)) image);
     }
 
 -- ALL IS DURABLE behind a call that says so
 pub forced_then : (Given : Type 0) (p q : Parts) (t : Table) (from : State) → StandsBy Given p t from → (Tells Given q.failed → Tells Given p.failed) → ((o : Origin) (ds ps : List Numbered) → Given → IsEngine o p.disk p.log ds ps p.pool → IsEngine o q.disk q.log (ds ++ ps) [] q.pool) → IsForced (seen_by Given q)
-forced_then Given p q t from m back did tell = ∥∥₁_elim m.known (steps_set (steps_of (durable_in q.disk q.log)) (steps_of (all_in_log q.disk q.log))) (λ k.
+forced_then Given p q t from m back did tell = ap (λ (l : Steps). l ++ steps_of q.past.gone) (∥∥₁_elim m.known (steps_set (steps_of (durable_in q.disk q.log)) (steps_of (all_in_log q.disk q.log))) (λ k.
     let s = back tell in
-    forced_all (origin_of t (seen_of p.found)) q.disk q.log (all_in_log p.disk p.log) q.pool (did (origin_of t (seen_of p.found)) (durable_in p.disk p.log) (waiting_in p.log) s.tells (k s.whole s.tells).now.engine))
+    forced_all (origin_at t p.past) q.disk q.log (all_in_log p.disk p.log) q.pool (did (origin_at t p.past) (durable_in p.disk p.log) (waiting_in p.log) s.tells (k s.whole s.tells).poised.now.engine)))
 
 -- one that has failed tells nothing
-pub some_broken : (Given : Type 0) (found w : View) (log : Tail) (pool : Pool) → StandsForSome Given true found w log pool
-some_broken Given found w log pool tell = not_true tell.whole
+pub some_broken : (Given : Type 0) (past : Past) (w : View) (log : Tail) (pool : Pool) → StandsForSome Given true past w log pool
+some_broken Given past w log pool tell = not_true tell.whole
 
 -- what is known for some
-pub some_kept : (Given : Type 0) (f : Bool) (found v w : View) (log log' : Tail) (pool pool' : Pool) → Keeps (Stands Given f found v log pool) (Stands Given f found w log' pool') → StandsForSome Given f found v log pool → StandsForSome Given f found w log' pool'
-some_kept Given f found v w log log' pool pool' keeps some tell = ∥∥₁_elim (some tell) ∥∥₁_prop (λ x. ∣ (x.0, x.1, keeps x.0 x.1 x.2) ∣₁)
+pub some_kept : (Given : Type 0) (f : Bool) (past : Past) (v w : View) (log log' : Tail) (pool pool' : Pool) → Keeps (Stands Given f past v log pool) (Stands Given f past w log' pool') → StandsForSome Given f past v log pool → StandsForSome Given f past w log' pool'
+some_kept Given f past v w log log' pool pool' keeps some tell = ∥∥₁_elim (some tell) ∥∥₁_prop (λ x. ∣ (x.0, x.1, keeps x.0 x.1 x.2) ∣₁)
+
+-- also with another past
+pub some_past : (Given : Type 0) (f : Bool) (past past' : Past) (v w : View) (log log' : Tail) (pool pool' : Pool) → Keeps (Stands Given f past v log pool) (Stands Given f past' w log' pool') → StandsForSome Given f past v log pool → StandsForSome Given f past' w log' pool'
+some_past Given f past past' v w log log' pool pool' keeps some tell = ∥∥₁_elim (some tell) ∥∥₁_prop (λ x. ∣ (x.0, x.1, keeps x.0 x.1 x.2) ∣₁)
 
 -- also by one table alone
-pub some_kept_by : (Given : Type 0) (f : Bool) (found v w : View) (log log' : Tail) (pool pool' : Pool) (t : Table) → ((from : State) → Stands Given f found v log pool t from → Stands Given f found w log' pool' t from)
-    → (Tells Given f → ∥ ((from : State) × Stands Given f found v log pool t from) ∥₁) → StandsForSome Given f found w log' pool'
-some_kept_by Given f found v w log log' pool pool' t keeps some tell = ∥∥₁_elim (some tell) ∥∥₁_prop (λ x. ∣ (t, x.0, keeps x.0 x.1) ∣₁)
+pub some_kept_by : (Given : Type 0) (f : Bool) (past : Past) (v w : View) (log log' : Tail) (pool pool' : Pool) (t : Table) → ((from : State) → Stands Given f past v log pool t from → Stands Given f past w log' pool' t from)
+    → (Tells Given f → ∥ ((from : State) × Stands Given f past v log pool t from) ∥₁) → StandsForSome Given f past w log' pool'
+some_kept_by Given f past v w log log' pool pool' t keeps some tell = ∥∥₁_elim (some tell) ∥∥₁_prop (λ x. ∣ (t, x.0, keeps x.0 x.1) ∣₁)

@@ -2,6 +2,7 @@
 use Rattle.std.proofs.Common.{◌≡◌, ◌≤◌, ◌<◌, ◌+◌, ◌*◌, ℕ, get_or, Bool, true, false, List, [], ◌++◌, length, Some, None, refl, sym, ap, ◌∙◌, subst, arith}
 use Rattle.std.specs.Prelude.{if◌then◌else◌, nat_lt}
 use Rattle.std.proofs.lemmas.List.{ext_get_or}
+use Rattle.std.proofs.Props.{props}
 use mathlib.Core.Logic.{∥∥₁_elim, ∥∥₁_prop}
 use Rattle.sg_base.specs.Page.{stored, IsSlotted}
 use Rattle.sg_base.specs.Sheet.{Sheet, sheet_of}
@@ -18,30 +19,35 @@ use Rattle.sg_pool.specs.Units.{Geometry}
 use Rattle.sg_redo.specs.Leaf.{leaf_of}
 use Rattle.sg_redo.proofs.Saying.{leaf_slotted}
 use Rattle.sg_slotted.proofs.Room.{bytes_fit}
+use Rattle.sg_recovery.specs.Log.{tally, is_in}
+use Rattle.sg_recovery.specs.Laws.{Each}
 use Rattle.sg_action.specs.States.{State}
 use Rattle.sg_engine.specs.Effects.{IsBy}
 use Rattle.sg_engine.specs.Engine.{Origin}
 use Rattle.sg_engine.specs.Running.{IsEngine}
 use Rattle.sg_engine.proofs.Pools.{page_bytes, band_bytes}
 use Rattle.sg_actions.specs.Engine.{led, now_of, ArePagesFit, StandsNow}
+use Rattle.sg_actions.specs.Cutting.{HasWanted}
 use Rattle.sg_actions.specs.Images.{Grows}
 use Rattle.sg_actions.specs.Painting.{AreBandsWhole}
 use Rattle.sg_actions.specs.Steps.{repeated}
 use Rattle.sg_phys_laws.specs.Listed.{listed}
 use Rattle.sg_phys_laws.specs.Poised.{AreSaid, IsPoised}
 use Rattle.sg_phys_laws.specs.Reading.{durable_in, waiting_in}
-use Rattle.sg_phys_laws.specs.Recovers.{cut_at, no_band, origin_of, RecoversBy}
+use Rattle.sg_phys_laws.specs.Recovers.{cut_at, no_band, RecoversBy}
 use Rattle.sg_phys_laws.specs.States.{state_of, steps_of, homes_of, unsaid}
 use Rattle.sg_phys_laws.proofs.Cutting.{cut_same, below_test}
 use Rattle.sg_phys_laws.proofs.Fronting.{front_grows}
 use Rattle.sg_phys_laws.proofs.Going.{said_more}
 use Rattle.sg_phys_laws.proofs.Listing.{length-listed, get_or-listed, same-listed}
 use Rattle.sg_phys_laws.proofs.Poised.{all_in_log, rest_images, none_stood}
+use Rattle.sg_phys_laws.proofs.Fore.{repeated_behind}
 use Rattle.sg_phys_laws.proofs.Recovered.{image_fix}
-use Rattle.sg_phys_laws.proofs.Sets.{state_set}
+use Rattle.sg_phys_laws.proofs.Sets.{state_set, tally_set}
 use Rattle.sg_phys_laws.proofs.Wrapped.{append_none}
-use Rattle.sg_phys.specs.Phys.{Parts, StandsBy, Tells, pool_says, seen_by, seen_of}
-use Rattle.sg_phys.proofs.Images.{by_table, image_by}
+use Rattle.sg_phys.specs.Phys.{Parts, StandsBy, StandsForSome, Tells, origin_at, pool_says, seen_by}
+use Rattle.sg_phys.proofs.Behind.{grows_behind, image_behind, still_wanted, each_prop}
+use Rattle.sg_phys.proofs.Images.{by_past, image_by}
 
 -- WHAT THE STEPS MAKE is what the bytes say
 now_is : (t : Table) (from : State) (o : Origin) (v : View) (log : Tail) (pool : Pool) → IsBy t o → IsPoised t from o v log pool → AreSaid t from o (all_in_log v log)
@@ -86,25 +92,30 @@ says_whole v pool b = by (nat_lt b (sizes pool).bands)
 
 -- what is durable is a front
 pub told_front : (Given : Type 0) (p : Parts) → Grows (seen_by Given p).durable (seen_by Given p).steps
-told_front Given p = front_grows (durable_in p.disk p.log) (waiting_in p.log)
+told_front Given p = grows_behind (steps_of p.past.gone) (steps_of (durable_in p.disk p.log)) (steps_of (all_in_log p.disk p.log)) (front_grows (durable_in p.disk p.log) (waiting_in p.log))
 
 -- WHERE IT TELLS, what it holds is what its steps make,
 pub told_now : (Given : Type 0) (p : Parts) (t : Table) (from : State) → StandsBy Given p t from → Tells Given p.failed → (seen_by Given p).now ≡ now_of t (led from (seen_by Given p))
-told_now Given p t from m tell = ∥∥₁_elim m.known (state_set (pool_says p.disk p.pool) (repeated t from (steps_of (all_in_log p.disk p.log)))) (λ k.
-    let o : Origin = origin_of t (seen_of p.found) in
-    let q = k tell.whole tell.tells in
-    pool_is o p.disk p.log p.pool (durable_in p.disk p.log) (waiting_in p.log) q.now.engine ∙ now_is t from o p.disk p.log p.pool (by_table t (seen_of p.found)) q)
+told_now Given p t from m tell = ∥∥₁_elim m.known (state_set (pool_says p.disk p.pool) (repeated t from (steps_of (all_in_log p.disk p.log) ++ steps_of p.past.gone))) (λ k.
+    let o : Origin = origin_at t p.past in
+    let q = (k tell.whole tell.tells).poised in
+    pool_is o p.disk p.log p.pool (durable_in p.disk p.log) (waiting_in p.log) q.now.engine
+    ∙ (now_is t (repeated t from (steps_of p.past.gone)) o p.disk p.log p.pool (by_past t p.past) q
+    ∙ repeated_behind t from (steps_of (all_in_log p.disk p.log)) (steps_of p.past.gone)))
 
 -- and each image that a crash leaves has a front of them
 pub told_images : (Given : Type 0) (p : Parts) (t : Table) (from : State) → StandsBy Given p t from → Tells Given p.failed → StandsNow (RecoversBy t) t (led from (seen_by Given p))
 told_images Given p t from m tell c leaves =
-    let o : Origin = origin_of t (seen_of p.found) in
-    let by : IsBy t o = by_table t (seen_of p.found) in
+    let o : Origin = origin_at t p.past in
+    let from' : State = repeated t from (steps_of p.past.gone) in
+    let by : IsBy t o = by_past t p.past in
     let ds : List Numbered = durable_in p.disk p.log in
     let all : List Numbered = all_in_log p.disk p.log in
-    image_by t o from (steps_of ds) (steps_of all) c by
-    (image_fix o t from (steps_of ds) (steps_of all) c
-    (∥∥₁_elim m.known ∥∥₁_prop (λ k. let q = k tell.whole tell.tells in ∣ (rest_images t from o p.disk p.disk p.log p.pool by q (none_stood o p.disk p.log ds (waiting_in p.log) p.pool q.now.engine)).first c leaves ∣₁)))
+    let says : tally (steps_of ds) ≡ tally (steps_of ds ++ steps_of p.past.gone) = ∥∥₁_elim m.known (tally_set _ _) (λ k. (k tell.whole tell.tells).says) in
+    image_behind t from (steps_of p.past.gone) (steps_of ds) (steps_of all) c says
+    (image_by t o from' (steps_of ds) (steps_of all) c by
+    (image_fix o t from' (steps_of ds) (steps_of all) c
+    (∥∥₁_elim m.known ∥∥₁_prop (λ k. let q = (k tell.whole tell.tells).poised in ∣ (rest_images t from' o p.disk p.disk p.log p.pool by q (none_stood o p.disk p.log ds (waiting_in p.log) p.pool q.now.engine)).first c leaves ∣₁))))
 
 -- bytes by their places
 listed_is : (n : ℕ) (f : ℕ → ℕ) (xs : List ℕ) → length xs ≡ n → ((i : ℕ) → i < n → get_or xs i 0 ≡ f i) → listed n f ≡ xs
@@ -118,3 +129,11 @@ shown_page v pool p bytes lt slotted is = let b = below_test p (sizes pool).page
 -- and at a band
 pub shown_band : (v : View) (pool : Pool) (n : ℕ) (bytes : List ℕ) → n < (sizes pool).bands → length bytes ≡ BAND_SIZE → ((i : ℕ) → i < BAND_SIZE → get_or bytes i 0 ≡ (contents v pool).byte n i) → (pool_says v pool).bands n ≡ bytes
 shown_band v pool n bytes lt long is = let b = below_test n (sizes pool).bands lt in (rw b refl) ∙ listed_is BAND_SIZE ((contents v pool).byte n) bytes long is
+
+-- WHAT IS STILL WANTED of the log stands at its first byte or behind it
+pub told_wanted : (Given : Type 0) (p : Parts) → StandsForSome Given p.failed p.past p.disk p.log p.pool → Tells Given p.failed → HasWanted p.past.super.base (seen_by Given p).steps
+told_wanted Given p some tell = record {
+  begun = λ u live. ∥∥₁_elim (some tell) (hlevel props) (λ x. ∥∥₁_elim x.2.known (hlevel props) (λ k. (still_wanted x.0 x.1 p.past p.disk p.log p.pool (k tell.whole tell.tells)).begun u live));
+  opened = let prop = each_prop p.past.super.base (λ d. d.lsn) (tally (seen_by Given p).steps).opened in
+      ∥∥₁_elim (some tell) prop (λ x. ∥∥₁_elim x.2.known prop (λ k. (still_wanted x.0 x.1 p.past p.disk p.log p.pool (k tell.whole tell.tells)).opened));
+}

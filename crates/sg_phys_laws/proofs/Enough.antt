@@ -16,7 +16,7 @@ use Rattle.sg_recovery.specs.Laws.{Each}
 use Rattle.sg_recovery.specs.Log.{tally, is_in}
 use Rattle.sg_recovery.specs.Log.Record.{Change as StepChange, PhysComp as StepPhysComp}
 use Rattle.sg_recovery.specs.TakeOff.{AreOwned}
-use Rattle.sg_recovery.proofs.Basic.{or_cases, or_left, or_right, and_left, and_right, each_append, each_both, each_more}
+use Rattle.sg_recovery.proofs.Basic.{or_cases, or_left, or_right, and_left, and_right, each_append, each_back, each_both, each_more}
 use Rattle.sg_analysis.specs.Sights as sights
 use Rattle.sg_analysis.specs.Analysis.{analysis_of, going_on, with_last, oldest_first, is_number}
 use Rattle.sg_analysis.specs.Returns.{opens}
@@ -202,3 +202,30 @@ all_enough_more t base ds ps x mark formed registered all front more e = ⊎_eli
 pub all_enough_durable : (t : Table) (base : ℕ) (ds since all : List Numbered) → AllEnough t base ds all → AllEnough t base (ds ++ since) all
 all_enough_durable t base ds since all enough front more e =
     subst (IsEnough t base) (sym (append_assoc ds since front)) (enough (since ++ front) more (ap (λ (l : List Numbered). l ++ more) (sym (append_assoc ds since front)) ∙ e))
+
+-- WHAT IS KEPT OF A LOG whose front is cut off has enough registered too: it says what all of the log said, and history is repeated from no
+-- earlier point
+pub enough_kept : (t : Table) (base p : ℕ) (gone kept : List Numbered) → redo_point base (gone ++ kept) ≤ redo_point p kept → tally (steps_of kept) ≡ tally (steps_of (gone ++ kept)) → IsEnough t base (gone ++ kept) → IsEnough t p kept
+enough_kept t base p gone kept later says enough =
+    none_all t (redo_point p kept) (undone_of (analysis_of p kept)) kept
+    (each_more (λ n. unknown_by t (redo_point base (gone ++ kept)) (undone_of (analysis_of base (gone ++ kept))) n.lsn n.is ≡ None) (λ n. unknown_by t (redo_point p kept) (undone_of (analysis_of p kept)) n.lsn n.is ≡ None) kept (λ n was. one n was)
+    (each_back (λ n. unknown_by t (redo_point base (gone ++ kept)) (undone_of (analysis_of base (gone ++ kept))) n.lsn n.is ≡ None) gone kept
+    (none_each t (redo_point base (gone ++ kept)) (undone_of (analysis_of base (gone ++ kept))) (gone ++ kept) enough)))
+  where
+    earlier : (n : Numbered) → needed_by (redo_point p kept) (steps_of kept) n.lsn n.is ≡ true → needed_by (redo_point base (gone ++ kept)) (steps_of (gone ++ kept)) n.lsn n.is ≡ true
+    earlier n h =
+        let rest : Bool = is_in n.is.transaction (tally (steps_of (gone ++ kept))).live || (n.is.transaction == 0 && is_in n.lsn (system_opens (tally (steps_of (gone ++ kept))).opened)) in
+        let same : (nat_le (redo_point p kept) n.lsn || rest) ≡ true =
+        subst (λ k. (nat_le (redo_point p kept) n.lsn || (is_in n.is.transaction k.live || (n.is.transaction == 0 && is_in n.lsn (system_opens k.opened)))) ≡ true) says h in
+        or_cases (nat_le (redo_point p kept) n.lsn) rest ((nat_le (redo_point base (gone ++ kept)) n.lsn || rest) ≡ true) same
+        (λ e. or_left (nat_le (redo_point base (gone ++ kept)) n.lsn) rest (grind (arith, nat_tests, e, later)))
+        (λ e. or_right (nat_le (redo_point base (gone ++ kept)) n.lsn) rest e)
+
+    one : (n : Numbered) → unknown_by t (redo_point base (gone ++ kept)) (undone_of (analysis_of base (gone ++ kept))) n.lsn n.is ≡ None → unknown_by t (redo_point p kept) (undone_of (analysis_of p kept)) n.lsn n.is ≡ None
+    one n was = by_need (is_needed (redo_point p kept) (undone_of (analysis_of p kept)) n.lsn n.is) refl
+      where
+        by_need : (b : Bool) → is_needed (redo_point p kept) (undone_of (analysis_of p kept)) n.lsn n.is ≡ b → (if b then unknown_in t (changed_by n.is.says) else None) ≡ None
+        by_need false need = refl
+        by_need true need =
+            let before = earlier n (sym (needed_is p (redo_point p kept) kept n.lsn n.is) ∙ need) in
+            sym (ap (λ (b : Bool). if b then unknown_in t (changed_by n.is.says) else None) (needed_is base (redo_point base (gone ++ kept)) (gone ++ kept) n.lsn n.is ∙ before)) ∙ was

@@ -38,7 +38,7 @@ estimate_below d e lsn Commit le low mark = le
 estimate_below d e lsn End le low mark = le
 
 -- so do those of records that are below it,
-under_below : (o : Origin) (d e : ℕ) (ns : List Numbered) → e ≤ d → AllUnder entry_number d (entries o ns) → AreMarked Any ns → last_estimate e ns ≤ d
+pub under_below : (o : Origin) (d e : ℕ) (ns : List Numbered) → e ≤ d → AllUnder entry_number d (entries o ns) → AreMarked Any ns → last_estimate e ns ≤ d
 under_below o d e [] le under marks = le
 under_below o d e (n ∷ ns) le under marks =
     let low = under.0 in

@@ -15,6 +15,8 @@ pub mod Numbers
 pub mod Handing
 pub mod Forming
 pub mod Latest
+pub mod Fore
+pub mod Cut
 pub mod Sighted
 pub mod Backward
 pub mod Enough

@@ -17,7 +17,7 @@ use Rattle.sg_engine.specs.History.{AllThere}
 use Rattle.sg_engine.specs.Running.{IsEngine, IsAllowed, HasGoneOn}
 use Rattle.sg_engine.specs.declared.fault.EngineFault.{EngineFault}
 use Rattle.sg_engine.proofs.Pools.{rest_moments}
-use Rattle.sg_actions.specs.Images.{Grows, IsImageOf}
+use Rattle.sg_actions.specs.Images.{Grows}
 use Rattle.sg_actions.specs.Steps.{Steps, step_of, with_step}
 use Rattle.sg_recovery.specs.Formed.{IsLog}
 use Rattle.sg_phys_laws.specs.Formed.{AreFormed}
@@ -28,6 +28,7 @@ use Rattle.sg_phys_laws.specs.Points.{IsMarked, ArePoints, NoneLater, IsLatest}
 use Rattle.sg_phys_laws.specs.Reading.{durable_in, waiting_in}
 use Rattle.sg_phys_laws.specs.Recovers.{Recovers}
 use Rattle.sg_phys_laws.specs.States.{AllAgree, steps_of}
+use Rattle.sg_phys_laws.specs.Whole.{IsWholeImageOf}
 use Rattle.sg_phys_laws.proofs.Agreeing.{all_agree_durable}
 use Rattle.sg_phys_laws.proofs.Enough.{all_enough_more, all_enough_durable}
 use Rattle.sg_phys_laws.proofs.Latest.{marks_later}
@@ -36,7 +37,7 @@ use Rattle.sg_phys_laws.proofs.Going.{said_more}
 use Rattle.sg_phys_laws.proofs.Fronting.{front_grows, one_more}
 use Rattle.sg_phys_laws.proofs.Points.{mark_allow, points_allow, points_append, points_durable}
 use Rattle.sg_phys_laws.proofs.Reading.{held_are}
-use Rattle.sg_phys_laws.proofs.Recovered.{moments_are, image_more}
+use Rattle.sg_phys_laws.proofs.Recovered.{moments_are, whole_more}
 use Rattle.sg_phys_laws.proofs.Stepping.{steps_more}
 use Rattle.sg_phys_laws.proofs.Wrapped.{now_again, all_are, append_none}
 
@@ -53,6 +54,7 @@ pub record Behind (t : Table) (from : State) (o : Origin) (v w : View) (log log'
   pub poised : IsPoised t from o w log' pool'
   pub steps : steps_of (all_in_log w log') ≡ steps_of all
   pub durable : Grows (steps_of (durable_in v log)) (steps_of (durable_in w log'))
+  pub whole : all_in_log w log' ≡ all
 
 behind : (t : Table) (from : State) (o : Origin) (v w : View) (log log' : Tail) (pool' : Pool) (all : List Numbered) → IsBy t o → HasGoneOn o w log' (durable_in v log) all pool' → AllAgree t o (durable_in v log) all → AreSaid t from o (durable_in v log)
     → AreFormed o.super.base (durable_in v log) all → AllEnough t o.super.base (durable_in v log) all → ArePoints o (IsAllowed o w log' pool') (durable_in v log) all → Behind t from o v w log log' pool' all
@@ -81,6 +83,7 @@ behind t from o v w log log' pool' all by h agrees said formed enough points =
       };
       steps = ap steps_of whole;
       durable = subst (λ (l : List Numbered). Grows (steps_of (durable_in v log)) (steps_of l)) (sym durable) (front_grows (durable_in v log) h.since);
+      whole = whole;
     }
 
 -- a call that appends nothing
@@ -137,19 +140,19 @@ behind_record t from o v w log log' pool pool' r lsn by p mark formed registered
 
 -- THE IMAGES of a call that appends nothing
 pub rest_images : (t : Table) (from : State) (o : Origin) (v w : View) (log : Tail) (pool : Pool) → IsBy t o → (p : IsPoised t from o v log pool) → Stood o v w log pool (durable_in v log) (all_in_log v log)
-    → LeavesOnly v w (IsImageOf (Recovers t o) t from (steps_of (durable_in v log)) (steps_of (all_in_log v log)))
+    → LeavesOnly v w (IsWholeImageOf (Recovers t o) t from (steps_of (durable_in v log)) (steps_of (all_in_log v log)))
 rest_images t from o v w log pool by p stood = moments_are t from o v w log pool (durable_in v log) (all_in_log v log) by p.now.agrees p.said p.formed p.enough p.points stood
 
 -- and of one for a record
 pub record_images : (t : Table) (from : State) (o : Origin) (v w : View) (log log' : Tail) (pool pool' : Pool) (r : Record) (lsn : ℕ) (result : Result ℕ EngineFault) → IsBy t o → (p : IsPoised t from o v log pool) → IsMarked (IsLatest (IsAllowed o v log pool) (tail_of log)) lsn r.says
     → ∥ IsLog o.super.base (with_step (steps_of (all_in_log v log)) lsn (step_of r)) ∥₁ → HasRun t o v w log log' pool pool' (durable_in v log) (all_in_log v log) r lsn result
-    → LeavesOnly v w (IsImageOf (Recovers t o) t from (steps_of (durable_in v log)) (with_step (steps_of (all_in_log v log)) lsn (step_of r)))
+    → LeavesOnly v w (IsWholeImageOf (Recovers t o) t from (steps_of (durable_in v log)) (with_step (steps_of (all_in_log v log)) lsn (step_of r)))
 record_images t from o v w log log' pool pool' r lsn result by p mark formed h =
     let all : List Numbered = all_in_log v log in
     ⊎_elim
     (λ early. weaker (rest_images t from o v w log pool by p early)
-    (λ c m. image_more (Recovers t o) t from (steps_of (durable_in v log)) (steps_of all) (with_step (steps_of all) lsn (step_of r)) c (one_more (steps_of all) lsn (step_of r)) m))
-    (λ late. subst (λ (rs : Steps). LeavesOnly v w (IsImageOf (Recovers t o) t from (steps_of (durable_in v log)) rs)) (steps_more all (at_number lsn r))
+    (λ c m. whole_more (Recovers t o) t from (steps_of (durable_in v log)) (steps_of all) (with_step (steps_of all) lsn (step_of r)) c (one_more (steps_of all) lsn (step_of r)) m))
+    (λ late. subst (λ (rs : Steps). LeavesOnly v w (IsWholeImageOf (Recovers t o) t from (steps_of (durable_in v log)) rs)) (steps_more all (at_number lsn r))
     (moments_are t from o v w log pool (durable_in v log) (all ++ at_number lsn r ∷ []) by late.0 p.said
     (formed_more o.super.base (durable_in v log) all (at_number lsn r) p.formed formed) (enough_then t from o v log pool r lsn p (latest_mark o v log pool lsn r.says mark) formed h.registered)
     (points_append (IsAllowed o v log pool) o (durable_in v log) all (at_number lsn r) p.points (mark_allow (IsLatest (IsAllowed o v log pool) (tail_of log)) (IsAllowed o v log pool) lsn r.says (λ k latest. latest.is) mark)) late.1))

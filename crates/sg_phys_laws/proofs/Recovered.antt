@@ -31,6 +31,7 @@ use Rattle.sg_phys_laws.specs.Points.{redo_point, ArePoints}
 use Rattle.sg_phys_laws.specs.Recovers.{cut_at, records_in, said_in, IsSoundImage, Recovers, StandsOwn}
 use Rattle.sg_phys_laws.specs.Poised.{AreSaid}
 use Rattle.sg_phys_laws.specs.States.{state_of, steps_of, homes_of, AllAgree}
+use Rattle.sg_phys_laws.specs.Whole.{IsWholeImageOf}
 use Rattle.sg_phys_laws.proofs.Cutting.{cut_same}
 use Rattle.sg_phys_laws.proofs.Going.{said_more}
 use Rattle.sg_phys_laws.proofs.Fronting.{front_grows}
@@ -92,7 +93,7 @@ module _ (t : Table) (from : State) (o : Origin) (ds all : List Numbered) (c : I
   enough_front = subst (IsEnough t o.super.base) (sym own.stands.later)
       (enough own.stands.since own.stands.more (ap (λ (l : List Numbered). l ++ own.stands.more) (sym own.stands.later) ∙ sym own.stands.front))
 
-  pub image_is : IsImageOf (Recovers t o) t from (steps_of ds) (steps_of all) c
+  pub image_is : IsWholeImageOf (Recovers t o) t from (steps_of ds) (steps_of all) c
   image_is = record {
     front = steps_of ns;
     is_front = record {
@@ -123,7 +124,7 @@ grows_fix a b h = record {
 }
 
 -- that an image holds a front,
-pub image_fix : (o : Origin) (t : Table) (first : State) (durable log : Steps) (c : Image) → ∥ IsImageOf (Recovers t o) t first durable log c ∥₁ → IsImageOf (Recovers t o) t first durable log c
+pub image_fix : (o : Origin) (t : Table) (first : State) (durable log : Steps) (c : Image) → ∥ IsWholeImageOf (Recovers t o) t first durable log c ∥₁ → IsWholeImageOf (Recovers t o) t first durable log c
 image_fix o t first durable log c h =
     let f : Steps = steps_of (records_in o c) in
     record {
@@ -165,12 +166,25 @@ moments_own o v w log pool ds all points runs =
     }
 
 pub moments_are : (t : Table) (from : State) (o : Origin) (v w : View) (log : Tail) (pool : Pool) (ds all : List Numbered) → IsBy t o → AllAgree t o ds all → AreSaid t from o ds → AreFormed o.super.base ds all → AllEnough t o.super.base ds all → ArePoints o (IsAllowed o v log pool) ds all → Stood o v w log pool ds all
-    → LeavesOnly v w (IsImageOf (Recovers t o) t from (steps_of ds) (steps_of all))
+    → LeavesOnly v w (IsWholeImageOf (Recovers t o) t from (steps_of ds) (steps_of all))
 moments_are t from o v w log pool ds all by agrees said formed enough points runs = weaker (moments_own o v w log pool ds all points runs) (λ c own. image_is t from o ds all c by agrees said formed enough own)
 
 -- more steps, or fewer durable ones
 pub grows_then : (a b c : Steps) → Grows a b → Grows b c → Grows a c
 grows_then a b c g h = record { since = h.since ++ g.since; all = h.all ∙ (ap (λ (l : Steps). h.since ++ l) g.all ∙ sym (append_assoc h.since g.since a)) }
 
+pub whole_more : (holds : Recovering) (t : Table) (first : State) (durable log more : Steps) (c : Image) → Grows log more → IsWholeImageOf holds t first durable log c → IsWholeImageOf holds t first durable more c
+whole_more holds t first durable log more c g m = record { front = m.front; is_front = record { within = grows_then m.front log more m.is_front.within g; whole = m.is_front.whole }; recovers = m.recovers }
+
 pub image_more : (holds : Recovering) (t : Table) (first : State) (durable log more : Steps) (c : Image) → Grows log more → IsImageOf holds t first durable log c → IsImageOf holds t first durable more c
-image_more holds t first durable log more c g m = record { front = m.front; is_front = record { within = grows_then m.front log more m.is_front.within g; whole = m.is_front.whole }; recovers = m.recovers }
+image_more holds t first durable log more c g m = record {
+  front = m.front;
+  is_front = record { within = grows_then m.front log more m.is_front.within g; whole = m.is_front.whole };
+  left = m.left;
+  says = m.says;
+  recovers = m.recovers;
+}
+
+-- AN IMAGE with all of its front is one
+pub whole_image : (holds : Recovering) (t : Table) (first : State) (durable log : Steps) (c : Image) → IsWholeImageOf holds t first durable log c → IsImageOf holds t first durable log c
+whole_image holds t first durable log c m = record { front = m.front; is_front = m.is_front; left = m.front; says = refl; recovers = m.recovers }

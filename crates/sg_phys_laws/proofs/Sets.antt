@@ -25,6 +25,18 @@ numbered_set = hlevel (props, step_set)
 pub steps_set : IsSet Steps
 steps_set = List-set numbered_set
 
+changes_set : IsSet (List Change)
+changes_set = List-set change_set
+
+opens_set : IsSet (List (recovery.Open Change))
+opens_set = List-set (hlevel (props, change_set))
+
+notes_set : IsSet (List (recovery.Top Change (List ℕ)))
+notes_set = List-set (hlevel (props, bytes_set, changes_set))
+
+pub tally_set : IsSet (recovery.Tally Change (List ℕ))
+tally_set = hlevel (props, bytes_set, opens_set, notes_set)
+
 pub step_option_set : IsSet (Option Step)
 step_option_set = hlevel (props, step_set)
 

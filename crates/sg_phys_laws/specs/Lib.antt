@@ -8,6 +8,7 @@ pub mod Waiting
 pub mod Logged
 pub mod Images
 pub mod Recovers
+pub mod Whole
 pub mod Poised
 pub mod Faults
 pub mod Counted

@@ -9,7 +9,6 @@ ghost use Rattle.sg_action.specs.States.{State};
 ghost use Rattle.sg_engine.specs.Effects.{IsBy};
 ghost use Rattle.sg_engine.specs.Engine.{Origin};
 ghost use Rattle.sg_engine.specs.Running.{IsEngine, IsAllowed};
-ghost use Rattle.sg_actions.specs.Images.{IsImageOf};
 ghost use Rattle.sg_actions.specs.Steps.{Steps, repeated};
 ghost use Rattle.sg_recovery.specs.Formed.{IsLog};
 ghost use Rattle.sg_phys_laws.specs.Formed.{AreFormed};
@@ -19,6 +18,7 @@ ghost use Rattle.sg_phys_laws.specs.Points.{redo_point, AreMarked};
 ghost use Rattle.sg_phys_laws.specs.Reading.{durable_in, waiting_in};
 ghost use Rattle.sg_phys_laws.specs.Recovers.{Recovers, RecoversBy, StandsOwn, extent_by, super_in};
 ghost use Rattle.sg_phys_laws.specs.States.{AllAgree, IsNext, steps_of};
+ghost use Rattle.sg_phys_laws.specs.Whole.{IsWholeImageOf};
 
 /// A law: what more records make of pages and bands, without the pages' numbers, is what their steps
 /// make of what these said. It holds without a record more, and with one more whose change may be made.
@@ -38,7 +38,7 @@ pub fn records_are_read()
 /// and bands come to what these make.
 pub fn images_recover()
     ensures { (t : Table) (from : State) (o : Origin) (ds all : List Numbered) (c : Image) → IsBy t o → AllAgree t o ds all → AreSaid t from o ds → AreFormed o.super.base ds all → AllEnough t o.super.base ds all → StandsOwn o ds all c
-        → IsImageOf (Recovers t o) t from (steps_of ds) (steps_of all) c }
+        → IsWholeImageOf (Recovers t o) t from (steps_of ds) (steps_of all) c }
 {}
 
 /// A law: an image holds one list of steps, and comes to one state.

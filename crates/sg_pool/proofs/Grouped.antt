@@ -15,14 +15,11 @@ use Rattle.sg_pool.specs.declared.pool.Pool.{Pool}
 use Rattle.sg_pool.specs.Pooled.{sizes}
 use Rattle.sg_pool.specs.Redone.{places_of}
 use Rattle.sg_pool.specs.Redoing.{IsRun}
+use Rattle.sg_pool.specs.Together.{IsBorder}
 use Rattle.sg_pool.specs.Units.{Geometry}
-use Rattle.sg_pool.proofs.Placed.{AreParts, no_place, none_of}
+use Rattle.sg_pool.proofs.Placed.{AreParts, no_place, none_of, joined_held, joined_parts}
 use Rattle.sg_pool.proofs.Redoing.{run_then}
 use Rattle.sg_pool.proofs.RedoRuns.{run_cut, run_starts}
-
--- the places before `from` are of other units than those behind
-abbrev pub IsBorder : List Place → ℕ → Type 0
-IsBorder places from = (k : ℕ) (d : Place) → k < from → from < length places → (get_or places k d).unit < (get_or places from d).unit
 
 -- the places from `from` to `to` are of one unit, and so are no others
 pub record IsGroup (places : List Place) (unit from to : ℕ) : Type 0 where
@@ -31,11 +28,15 @@ pub record IsGroup (places : List Place) (unit from to : ℕ) : Type 0 where
   pub same : (k : ℕ) (d : Place) → from ≤ k → k < to → (get_or places k d).unit ≡ unit
   pub border : (d : Place) → to < length places → (get_or places to d).unit ≢ unit
 
-take_get : (n k : ℕ) (xs : List Place) (d : Place) → k < length (take n xs) → (k < n) × (k < length xs) × (get_or (take n xs) k d ≡ get_or xs k d)
+pub take_get : (n k : ℕ) (xs : List Place) (d : Place) → k < length (take n xs) → (k < n) × (k < length xs) × (get_or (take n xs) k d ≡ get_or xs k d)
 take_get n k xs d lt =
     let size = length-take n xs in
     let low : k < n = omega (arith, lt, size) in
     (low, omega (arith, lt, size), get_or-take n xs k d low)
+
+-- all places from one on
+pub rest_all : (places : List Place) (from : ℕ) → take (length places - from) (drop from places) ≡ drop from places
+rest_all places from = take_all (length places - from) (drop from places) (let size = length-drop from places in omega (arith, size))
 
 module _ (places : List Place) (up : IsNonDecreasingBy (λ (p : Place). p.unit) places) where
   -- at a border
@@ -82,13 +83,6 @@ module _ (places : List Place) (up : IsNonDecreasingBy (λ (p : Place). p.unit) 
         (λ high. let is = group.same k d high low in omega (arith, least, first, other, is))
         (cases_lt k from)
 
-    group_sum : take to places ≡ take from places ++ take (to - from) (drop from places)
-    group_sum =
-        let some = group.some in let within = group.within in
-        let size : length (take from places) ≡ from = let long = length-take from places in omega (arith, long, some, within) in
-        let at : to ≡ length (take from places) + (to - from) = omega (arith, size, some) in
-        ap (λ (l : List Place). take to l) (sym (take-append-drop from places)) ∙ (ap (λ (n : ℕ). take n (take from places ++ drop from places)) at ∙ take-append-add (take from places) (drop from places) (to - from))
-
     pub group_all : All (λ p. p.unit ≡ unit) (take (to - from) (drop from places))
     group_all k d lt =
         let size = length-take (to - from) (drop from places) in
@@ -96,19 +90,73 @@ module _ (places : List Place) (up : IsNonDecreasingBy (λ (p : Place). p.unit) 
         let low : k < to - from = omega (arith, lt, size) in
         ap (λ (p : Place). p.unit) (get_or-take (to - from) (drop from places) k d low ∙ get_or-drop from places k d) ∙ group.same (from + k) d (omega arith) (omega (arith, low))
 
-    group_apart : (n : ℕ) → (places_of n (take (to - from) (drop from places)) ≡ []) ⊎ (places_of n (take from places) ≡ [])
-    group_apart n = ⊎_elim
-        (λ same. inr (none_of n (take from places) (λ k d lt is.
-        let it = take_get from k places d lt in
-        let less = before k d it.0 there in
-        let first = first_is d in
-        let here : (get_or places k d).unit ≡ n = sym (ap (λ (p : Place). p.unit) it.2) ∙ is in
-        absurd (omega (arith, less, first, here, same)))))
-        (λ differ. inl (none_of n (take (to - from) (drop from places)) (λ k d lt is. differ (sym is ∙ group_all k d lt))))
-        (cases_eq n unit)
+  -- PLACES FROM ONE BORDER ON are of other units than those before it
+  module _ (from to : ℕ) (before : IsBorder places from) (some : from < to) (within : to ≤ length places) where
+    span_sum : take to places ≡ take from places ++ take (to - from) (drop from places)
+    span_sum =
+        let size : length (take from places) ≡ from = let long = length-take from places in omega (arith, long, some, within) in
+        let at : to ≡ length (take from places) + (to - from) = omega (arith, size, some) in
+        ap (λ (l : List Place). take to l) (sym (take-append-drop from places)) ∙ (ap (λ (n : ℕ). take n (take from places ++ drop from places)) at ∙ take-append-add (take from places) (drop from places) (to - from))
 
-    pub group_parts : AreParts (take to places) (take from places) (take (to - from) (drop from places))
-    group_parts = record { sum = group_sum; apart = group_apart }
+    span_get : (k : ℕ) (d : Place) → k < length (take (to - from) (drop from places)) → (from + k < length places) × (get_or (take (to - from) (drop from places)) k d ≡ get_or places (from + k) d)
+    span_get k d lt =
+        let size = length-take (to - from) (drop from places) in
+        let rest = length-drop from places in
+        (omega (arith, lt, size, rest), get_or-take (to - from) (drop from places) k d (omega (arith, lt, size)) ∙ get_or-drop from places k d)
+
+    span_apart : (n : ℕ) → (places_of n (take (to - from) (drop from places)) ≡ []) ⊎ (places_of n (take from places) ≡ [])
+    span_apart n = ⊎_elim
+        (λ low. inl (none_of n (take (to - from) (drop from places)) (λ k d lt is.
+        let it = span_get k d lt in
+        let least = up from (from + k) no_place (omega arith) it.0 in
+        let here : (get_or places (from + k) no_place).unit ≡ n = ap (λ (p : Place). p.unit) (get_or_default places (from + k) no_place d it.0 ∙ sym it.1) ∙ is in
+        absurd (omega (arith, low, least, here)))))
+        (λ high. inr (none_of n (take from places) (λ k d lt is.
+        let it = take_get from k places d lt in
+        let less = before k no_place it.0 (omega (arith, some, within)) in
+        let here : (get_or places k no_place).unit ≡ n = ap (λ (p : Place). p.unit) (get_or_default places k no_place d it.1 ∙ sym it.2) ∙ is in
+        absurd (omega (arith, high, less, here)))))
+        (cases_lt n (get_or places from no_place).unit)
+
+    pub span_parts : AreParts (take to places) (take from places) (take (to - from) (drop from places))
+    span_parts = record { sum = span_sum; apart = span_apart }
+
+  -- a part of them is ordered, too
+  pub up_part : (n from : ℕ) → IsNonDecreasingBy (λ (p : Place). p.unit) (take n (drop from places))
+  up_part n from i j d le lt =
+      let size = length-take n (drop from places) in
+      let rest = length-drop from places in
+      let one = get_or-take n (drop from places) i d (omega (arith, le, lt, size)) ∙ get_or-drop from places i d in
+      let two = get_or-take n (drop from places) j d (omega (arith, lt, size)) ∙ get_or-drop from places j d in
+      let least = up (from + i) (from + j) d (omega (arith, le)) (omega (arith, lt, size, rest)) in
+      subst (λ (p : Place). p.unit ≤ (get_or (take n (drop from places)) j d).unit) (sym one) (subst (λ (p : Place). (get_or places (from + i) d).unit ≤ p.unit) (sym two) least)
+
+-- SO MANY PAGES' PLACES, and no part of another unit's
+pub record IsFront (places : List Place) (pages from to : ℕ) : Type 0 where
+  pub some : from < to
+  pub within : to ≤ length places
+  pub border : IsBorder places to
+  pub below : (k : ℕ) (d : Place) → from ≤ k → k < to → (get_or places k d).unit < pages
+
+module _ (places : List Place) (up : IsNonDecreasingBy (λ (p : Place). p.unit) places) (pages unit from : ℕ) where
+  pub front_first : (to : ℕ) → IsBorder places from → unit < pages → IsGroup places unit from to → IsFront places pages from to
+  front_first to before small group = record {
+    some = group.some;
+    within = group.within;
+    border = next_border places up unit from to before group;
+    below = λ k d least less. let is = group.same k d least less in omega (arith, is, small);
+  }
+
+  pub front_next : (to end : ℕ) → IsFront places pages from to → ((d : Place) → (get_or places to d).unit < pages) → IsGroup places unit to end → IsFront places pages from end
+  front_next to end front small group = record {
+    some = let one = front.some in let two = group.some in omega (arith, one, two);
+    within = group.within;
+    border = next_border places up unit to end front.border group;
+    below = λ k d least less. ⊎_elim
+        (λ low. front.below k d least low)
+        (λ high. let is = group.same k d high less in let first = group.same to d (omega arith) group.some in let low = small d in omega (arith, is, first, low))
+        (cases_lt k to);
+  }
 
 -- THE GROUPS BEFORE `from` ARE DONE
 pub record IsThrough (told : Bool) (t : Table) (text : List ℕ) (places : List Place) (v w : View) (log log1 : Tail) (old new : Pool) (from before after : ℕ) : Type 0 where
@@ -120,31 +168,50 @@ pub record IsThrough (told : Bool) (t : Table) (text : List ℕ) (places : List 
 pub through_starts : (told : Bool) (t : Table) (text : List ℕ) (places : List Place) (v : View) (log : Tail) (p : Pool) (steps : ℕ) → (IsTrue told → (a : Area) (i : ℕ) → (v.now a).seen i < 256) → IsThrough told t text places v v log log p p 0 steps steps
 through_starts told t text places v log p steps bytes = record { within = omega arith; border = λ k d low inside. absurd (omega (arith, low)); run = run_starts told t text v log p tt bytes; steps = omega arith }
 
-module _ (told : Bool) (t : Table) (text : List ℕ) (places : List Place) (up : IsNonDecreasingBy (λ (p : Place). p.unit) places) (v w z : View) (log log1 log2 : Tail) (old mid new : Pool) (from to unit before now : ℕ) (through : IsThrough told t text places v w log log1 old mid from before now) (group : IsGroup places unit from to) where
-  abbrev these : List Place
-  these = take (to - from) (drop from places)
+module _ (told : Bool) (t : Table) (text : List ℕ) (places : List Place) (up : IsNonDecreasingBy (λ (p : Place). p.unit) places) (v w z : View) (log log1 log2 : Tail) (old mid new : Pool) (from before now : ℕ) (through : IsThrough told t text places v w log log1 old mid from before now) where
+  -- a span more, up to a border
+  module _ (to : ℕ) (some : from < to) (within : to ≤ length places) (next : IsBorder places to) where
+    module _ {T : Type 0} (r : Result T PoolFault) (run : IsRun (sizes mid) told t text (take (to - from) (drop from places)) w z log1 log2 mid new r) where
+      pub front_run : IsRun (sizes old) told t text (take to places) v z log log2 old new r
+      front_run = run_then (sizes old) told t text text (take to places) (take from places) (take (to - from) (drop from places))
+          (joined_parts (take to places) (take from places) (take (to - from) (drop from places)) (span_parts places up from to through.border some within) (sizes old) t text) v w z log log1 log2 old mid new tt r through.run
+          (subst (λ (g : Geometry). IsRun g told t text (take (to - from) (drop from places)) w z log1 log2 mid new r) through.run.size run)
 
-  module _ {T : Type 0} (r : Result T PoolFault) (run : IsRun (sizes mid) told t text (take (to - from) (drop from places)) w z log1 log2 mid new r) where
-    pub front_run : IsRun (sizes old) told t text (take to places) v z log log2 old new r
-    front_run = run_then (sizes old) told t text (take to places) (take from places) (take (to - from) (drop from places)) (group_parts places up unit from to through.border group) v w z log log1 log2 old mid new tt r through.run
-        (subst (λ (g : Geometry). IsRun g told t text (take (to - from) (drop from places)) w z log1 log2 mid new r) through.run.size run)
+    pub through_next : (after : ℕ) → IsRun {T = Unit {0}} (sizes mid) told t text (take (to - from) (drop from places)) w z log1 log2 mid new (Ok tt) → after ≡ now + length (take (to - from) (drop from places))
+        → IsThrough told t text places v z log log2 old new to before after
+    through_next after run steps = record {
+      within = within;
+      border = next;
+      run = front_run {T = Unit {0}} (Ok tt) run;
+      steps =
+          let was = through.steps in
+          let size = length-take (to - from) (drop from places) in let rest = length-drop from places in
+          omega (arith, steps, was, size, rest, some, within);
+    }
 
-  pub through_next : (after : ℕ) → IsRun {T = Unit {0}} (sizes mid) told t text (take (to - from) (drop from places)) w z log1 log2 mid new (Ok tt) → after ≡ now + length (take (to - from) (drop from places))
-      → IsThrough told t text places v z log log2 old new to before after
-  through_next after run steps = record {
-    within = group.within;
-    border = next_border places up unit from to through.border group;
-    run = front_run {T = Unit {0}} (Ok tt) run;
-    steps =
-        let some = group.some in let within = group.within in let was = through.steps in
-        let size = length-take (to - from) (drop from places) in let rest = length-drop from places in
-        omega (arith, steps, was, size, rest, some, within);
-  }
+    pub through_cut : {T : Type 0} (e : PoolFault) → IsRun {T = T} (sizes mid) told t text (take (to - from) (drop from places)) w z log1 log2 mid new (Err e) → IsRun {T = T} (sizes old) told t text places v z log log2 old new (Err e)
+    through_cut {T} e run = run_cut {T = T} (sizes old) told t text text places (take to places) (drop to places) (joined_parts places (take to places) (drop to places) (cut_parts places up to next) (sizes old) t text) v z log log2 old new e (front_run {T = T} (Err e) run)
 
-  pub through_cut : {T : Type 0} (e : PoolFault) → IsRun {T = T} (sizes mid) told t text (take (to - from) (drop from places)) w z log1 log2 mid new (Err e) → IsRun {T = T} (sizes old) told t text places v z log log2 old new (Err e)
-  through_cut {T} e run = run_cut {T = T} (sizes old) told t text places (take to places) (drop to places) (cut_parts places up to (next_border places up unit from to through.border group)) v z log log2 old new e (front_run {T = T} (Err e) run)
+  -- all that are left
+  pub through_rest : {T : Type 0} (r : Result T PoolFault) → IsRun (sizes mid) told t text (take (length places - from) (drop from places)) w z log1 log2 mid new r → IsRun (sizes old) told t text places v z log log2 old new r
+  through_rest {T} r rest = let run : IsRun (sizes mid) told t text (drop from places) w z log1 log2 mid new r = subst (λ (l : List Place). IsRun (sizes mid) told t text l w z log1 log2 mid new r) (rest_all places from) rest in run_then (sizes old) told t text text places (take from places) (drop from places) (joined_parts places (take from places) (drop from places) (cut_parts places up from through.border) (sizes old) t text) v w z log log1 log2 old mid new tt r through.run
+      (subst (λ (g : Geometry). IsRun g told t text (drop from places) w z log1 log2 mid new r) through.run.size run)
 
 pub through_ends : (told : Bool) (t : Table) (text : List ℕ) (places : List Place) (v w : View) (log log1 : Tail) (old new : Pool) (from before after : ℕ) → IsThrough told t text places v w log log1 old new from before after → length places ≤ from
     → IsRun {T = Unit {0}} (sizes old) told t text places v w log log1 old new (Ok tt)
 through_ends told t text places v w log log1 old new from before after through all =
     subst (λ (l : List Place). IsRun {T = Unit {0}} (sizes old) told t text l v w log log1 old new (Ok tt)) (take_all from places all) through.run
+
+-- UNITS ARE HELD, then the records of a front of their places are repeated, and then those of the rest
+module _ (told : Bool) (t : Table) (text : List ℕ) (places : List Place) (up : IsNonDecreasingBy (λ (p : Place). p.unit) places) (v w z : View) (log log1 log2 : Tail) (p0 p1 p2 p3 : Pool) (held : IsRun {T = Unit {0}} (sizes p0) told t [] places v w log log1 p0 p1 (Ok tt))
+    (to : ℕ) (border : IsBorder places to) (front : IsRun {T = Unit {0}} (sizes p1) told t text (take to places) w w log1 log1 p1 p2 (Ok tt)) where
+  pub held_then : {T : Type 0} (r : Result T PoolFault) → IsRun (sizes p2) told t text (take (length places - to) (drop to places)) w z log1 log2 p2 p3 r → IsRun (sizes p0) told t text places v z log log2 p0 p3 r
+  held_then {T} r last =
+      let rest : IsRun (sizes p2) told t text (drop to places) w z log1 log2 p2 p3 r = subst (λ (l : List Place). IsRun (sizes p2) told t text l w z log1 log2 p2 p3 r) (rest_all places to) last in
+      let both : IsRun (sizes p1) told t text places w z log1 log2 p1 p3 r = run_then (sizes p1) told t text text places (take to places) (drop to places) (joined_parts places (take to places) (drop to places) (cut_parts places up to border) (sizes p1) t text) w w z log1 log1 log2 p1 p2 p3 tt r front
+      (subst (λ (g : Geometry). IsRun g told t text (drop to places) w z log1 log2 p2 p3 r) front.size rest) in
+      run_then (sizes p0) told t [] text places places places (joined_held (sizes p0) t text places) v w z log log1 log2 p0 p1 p3 tt r held (subst (λ (g : Geometry). IsRun g told t text places w z log1 log2 p1 p3 r) held.size both)
+
+-- or a page isn't held
+pub held_cut : {T : Type 0} (told : Bool) (t : Table) (text : List ℕ) (places : List Place) (v w : View) (log log1 : Tail) (p0 p1 : Pool) (e : PoolFault) → IsRun {T = T} (sizes p0) told t [] places v w log log1 p0 p1 (Err e) → IsRun {T = T} (sizes p0) told t text places v w log log1 p0 p1 (Err e)
+held_cut {T} told t text places v w log log1 p0 p1 e run = run_cut {T = T} (sizes p0) told t [] text places places places (joined_held (sizes p0) t text places) v w log log1 p0 p1 e run

@@ -38,3 +38,5 @@ pub mod HomesKept
 pub mod RedoHomes
 pub mod Sparing
 pub mod Welling
+pub mod OneMore
+pub mod HeldRuns

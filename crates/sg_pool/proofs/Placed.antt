@@ -1,5 +1,5 @@
 -- The places of one unit in a part of the log.
-use Rattle.std.proofs.Common.{◌≡◌, ◌≢◌, ◌⊎◌, inl, inr, ⊎_elim, ◌<◌, ◌+◌, ◌==◌, ℕ, suc, true, false, List, [], ◌∷◌, ◌++◌, length, refl, sym, ◌∙◌, ap, subst, arith, append-nil, length-append}
+use Rattle.std.proofs.Common.{◌≡◌, ◌≢◌, ◌⊎◌, inl, inr, ⊎_elim, ◌<◌, ◌≤◌, ◌+◌, ◌==◌, ℕ, suc, true, false, List, [], ◌∷◌, ◌++◌, length, refl, sym, ◌∙◌, ap, subst, arith, append-nil, length-append}
 use Rattle.std.specs.Prelude.{All}
 use Rattle.std.proofs.Math.ListN.{get_or-append}
 use Rattle.std.proofs.lemmas.Bool.Decides.{nat_tests}
@@ -7,9 +7,10 @@ use Rattle.std.proofs.lemmas.List.{get_or-append-add}
 use Rattle.std.proofs.lemmas.List.Elements.{filter-append}
 use Rattle.sg_ops.specs.Table.{Table}
 use Rattle.sg_redo.specs.declared.place.Place.{Place}
-use Rattle.sg_redo.specs.Places.{page_records, window_records}
+use Rattle.sg_redo.specs.Places.{change_at, page_part, page_records, window_part, window_records}
+use Rattle.sg_redo.proofs.Said.{nothing_behind}
 use Rattle.sg_pool.specs.Units.{Geometry}
-use Rattle.sg_pool.specs.Redone.{places_of, records_of}
+use Rattle.sg_pool.specs.Redone.{ArePlacesBelow, places_of, records_of}
 use Rattle.sg_pool.proofs.Redone.{AreTogether, IsOfPage, IsOfBand}
 
 -- what stands for a place that isn't there
@@ -65,6 +66,35 @@ module _ (g : Geometry) (t : Table) (text : List ℕ) (unit : ℕ) (places : Lis
     pages = λ n lt. ap (page_records t text) (other_unit n (λ e. absurd (omega (arith, e, is, lt)))) ∙ page_nothing t text;
   }
 
+-- in no bytes stands no record
+pub blank_page : (t : Table) (places : List Place) → page_records t [] places ≡ []
+unfolding page_records page_part
+blank_page t [] = refl
+blank_page t (p ∷ places) = ap (λ c. page_part t p.lsn c ++ page_records t [] places) (sym (nothing_behind [] p.at (omega arith))) ∙ blank_page t places
+
+pub blank_window : (t : Table) (places : List Place) → window_records t [] places ≡ []
+unfolding window_records window_part
+blank_window t [] = refl
+blank_window t (p ∷ places) = ap (λ c. window_part t p.lsn c ++ window_records t [] places) (sym (nothing_behind [] p.at (omega arith))) ∙ blank_window t places
+
+-- TWO RUNS ARE ONE: over places `a` of the first text, and then over places `b` of the text itself, as over all of this text
+pub record AreJoined (g : Geometry) (t : Table) (first text : List ℕ) (all a b : List Place) : Type 0 where
+  pub together : AreTogether (records_of g t text all) (records_of g t first a) (records_of g t text b)
+  pub neither : (n : ℕ) → places_of n all ≡ [] → (places_of n a ≡ []) × (places_of n b ≡ [])
+  pub either : (n : ℕ) → ((places_of n b ≡ []) × (places_of n all ≡ places_of n a)) ⊎ ((page_records t first (places_of n a) ≡ []) × (places_of n all ≡ places_of n b))
+  pub first_below : (tail : ℕ) → ArePlacesBelow tail all → ArePlacesBelow tail a
+  pub second_below : (tail : ℕ) → ArePlacesBelow tail all → ArePlacesBelow tail b
+
+-- units are held first, and then all records are repeated on them
+pub joined_held : (g : Geometry) (t : Table) (text : List ℕ) (places : List Place) → AreJoined g t [] text places places places
+joined_held g t text places = record {
+  together = record { page = λ n. inr (blank_page t (places_of n places), refl); band = λ n. inr (blank_window t (places_of (g.pages + n) places), refl) };
+  neither = λ n none. (none, none);
+  either = λ n. inr (blank_page t (places_of n places), refl);
+  first_below = λ tail every. every;
+  second_below = λ tail every. every;
+}
+
 -- TWO PARTS, one after the other, of which no unit has places in both
 pub record AreParts (all a b : List Place) : Type 0 where
   pub sum : all ≡ a ++ b
@@ -97,3 +127,18 @@ module _ (all a b : List Place) (parts : AreParts all a b) where
 
   pub all_second : (P : Place → Type 0) → All P all → All P b
   all_second P every = all_right P a b (subst (All P) parts.sum every)
+
+  pub joined_parts : (g : Geometry) (t : Table) (text : List ℕ) → AreJoined g t text text all a b
+  joined_parts g t text = record {
+    together = are_together g t text;
+    neither = λ n none. ⊎_elim
+        (λ no_b. (sym (places_first n no_b) ∙ none, no_b))
+        (λ no_a. (no_a, sym (places_second n no_a) ∙ none))
+        (parts.apart n);
+    either = λ n. ⊎_elim
+        (λ no_b. inl (no_b, places_first n no_b))
+        (λ no_a. inr (ap (page_records t text) no_a ∙ page_nothing t text, places_second n no_a))
+        (parts.apart n);
+    first_below = λ tail. all_first (λ p. p.lsn < tail);
+    second_below = λ tail. all_second (λ p. p.lsn < tail);
+  }

@@ -18,6 +18,7 @@ use Rattle.sg_log.specs.Held.{Tail, Holds, tail_of, forced}
 use Rattle.sg_log.proofs.Holding.{holds_image}
 use Rattle.sg_ops.specs.Table.{Table}
 use Rattle.sg_redo.specs.declared.place.Place.{Place}
+use Rattle.sg_redo.specs.History.{OnPage, repeated, since_repeated}
 use Rattle.sg_redo.specs.Places.{page_records, window_records}
 use Rattle.sg_pool.specs.declared.fault.PoolFault.{PoolFault}
 use Rattle.sg_pool.specs.declared.fault.PoolFault.TheVariants.{Disk, Damaged, Memory}
@@ -30,9 +31,9 @@ use Rattle.sg_pool.specs.Held.{no_slot, frame_of, page_in}
 use Rattle.sg_pool.specs.Lending.{IsBrought}
 use Rattle.sg_pool.specs.Moments.{IsSameOrForced}
 use Rattle.sg_pool.specs.Pooled.{sizes, contents, frame_holding, uses, window_count, Backs, SameContents, IsLogged, IsPoolMoment, SameWindows, SameFrames, last_of, OthersKeepLasts}
-use Rattle.sg_pool.specs.Redone.{ArePlacesBelow, PartRecords, places_of, records_of, IsRedone, ArePartlyRedone, AreHomesKnown, IsRedoMoment}
+use Rattle.sg_pool.specs.Redone.{ArePlacesBelow, AreWhole, PartRecords, places_of, records_of, IsRedone, ArePartlyRedone, AreHomesKnown, IsRedoMoment}
 use Rattle.sg_pool.specs.Redoing.{AreLastsRedone, IsDurable, RedoFails, AreRedone, IsRun}
-use Rattle.sg_pool.specs.Repeated.{lsn_in, last_lsn, IsCleanedThenPageRepeated, IsCleanedThenBandRepeated}
+use Rattle.sg_pool.specs.Repeated.{lsn_in, last_lsn, IsPageRepeated, IsCleanedThenPageRepeated, IsCleanedThenBandRepeated}
 use Rattle.sg_pool.specs.Shelves.{OnTold, BringFails, AreLogged, lasts}
 use Rattle.sg_pool.specs.Units.{Geometry, Units, IsBelow}
 use Rattle.sg_pool.specs.Untouched.{IsUntouched}
@@ -44,16 +45,19 @@ use Rattle.sg_pool.proofs.Counting.{grown_same}
 use Rattle.sg_pool.proofs.HomesKept.{untouched_same}
 use Rattle.sg_pool.proofs.Ordering.{used_pins}
 use Rattle.sg_pool.proofs.RedoHomes.{exact_here, exact_whole}
-use Rattle.sg_pool.proofs.Placed.{AreParts, places_first, are_together, all_first, all_of, none_of, of_page, of_band}
+use Rattle.sg_pool.proofs.Placed.{AreJoined, blank_page, all_of, none_of, of_page, of_band}
 use Rattle.sg_pool.proofs.Redone.{none, none_whole, first_whole, whole_of_whole, cleaned_redone, cleaned_then, page_redone, band_redone, homes_known, page_kept, records_numbered, cleaned_below, page_below, band_below}
 use Rattle.sg_pool.proofs.RedoMoments.{tail_is_gate, own_moment, moment_whole, version_whole}
 use Rattle.sg_pool.proofs.Redoing.{on_told_two, if_err_weaker, on_err_told}
 use Rattle.sg_pool.proofs.Slots.{some_same, none_is_some, none_or_some, frame_some, frame_is}
 
 -- A RUN THAT WAS CUT OFF is one of all the places
-module _ {T : Type 0} (g : Geometry) (told : Bool) (t : Table) (text : List ℕ) (all a b : List Place) (parts : AreParts all a b) (v w : View) (log log1 : Tail) (p0 p1 : Pool) (e : PoolFault) (run : IsRun {T = T} g told t text a v w log log1 p0 p1 (Err e)) where
+module _ {T : Type 0} (g : Geometry) (told : Bool) (t : Table) (start text : List ℕ) (all a b : List Place) (joined : AreJoined g t start text all a b) (v w : View) (log log1 : Tail) (p0 p1 : Pool) (e : PoolFault) (run : IsRun {T = T} g told t start a v w log log1 p0 p1 (Err e)) where
   named_still : (n : ℕ) → places_of n a ≢ [] → places_of n all ≢ []
-  named_still n some empty = ⊎_elim (λ no_b. some (sym (places_first all a b parts n no_b) ∙ empty)) (λ no_a. some no_a) (parts.apart n)
+  named_still n some empty = some (joined.neither n empty).0
+
+  whole : AreWhole (records_of g t start a) (records_of g t text all)
+  whole = first_whole (records_of g t text all) (records_of g t start a) (records_of g t text b) joined.together
 
   fails_still : (x : PoolFault) → RedoFails told log.area g v w p0 a x → RedoFails told log.area g v w p0 all x
   fails_still Disk risen = risen
@@ -71,28 +75,27 @@ module _ {T : Type 0} (g : Geometry) (told : Bool) (t : Table) (text : List ℕ)
     pins = run.pins;
     count = run.count;
     bytes = run.bytes;
-    below = λ tail logged every. run.below tail logged (all_first all a b parts (λ p. p.lsn < tail) every);
+    below = λ tail logged every. run.below tail logged (joined.first_below tail every);
     lasts = tt;
     absent = tt;
     faults = fails_still e run.faults;
     units_are = λ is_told apart backs. let it = run.units_are is_told apart backs in record {
       backed = it.backed;
       redone = tt;
-      partly = on_err_told {T = T} (Err e) _ _ (λ (x : ArePartlyRedone g (records_of g t text a) (contents v p0) (contents w p1)).
-          (x.0, whole_of_whole x.0 (records_of g t text a) (records_of g t text all) x.1 (first_whole (records_of g t text all) (records_of g t text a) (records_of g t text b) (are_together all a b parts g t text)), x.2)) it.partly;
-      untouched = on_told_weaker {T = T} (Err e) _ _ (exact_whole g (v.now Home).seen (w.now Home).seen (records_of g t text a) (records_of g t text all) (contents v p0) (contents w p1)
-          (first_whole (records_of g t text all) (records_of g t text a) (records_of g t text b) (are_together all a b parts g t text))) it.untouched;
+      partly = on_err_told {T = T} (Err e) _ _ (λ (x : ArePartlyRedone g (records_of g t start a) (contents v p0) (contents w p1)).
+          (x.0, whole_of_whole x.0 (records_of g t start a) (records_of g t text all) x.1 whole, x.2)) it.partly;
+      untouched = on_told_weaker {T = T} (Err e) _ _ (exact_whole g (v.now Home).seen (w.now Home).seen (records_of g t start a) (records_of g t text all) (contents v p0) (contents w p1)
+          whole) it.untouched;
       well = tt;
     };
     log_is = run.log_is;
     durable = λ ds is_told apart backs durable.
-        let it = run.durable ds is_told apart backs (record { holds = durable.holds; logged = durable.logged; below = all_first all a b parts (λ p. p.lsn < log.gate) durable.below }) in
-        let whole = first_whole (records_of g t text all) (records_of g t text a) (records_of g t text b) (are_together all a b parts g t text) in
+        let it = run.durable ds is_told apart backs (record { holds = durable.holds; logged = durable.logged; below = joined.first_below log.gate durable.below }) in
         record {
           logged = it.logged;
-          homes = on_told_weaker {T = T} (Err e) (AreHomesKnown g (w.now Home) (records_of g t text a) (contents v p0) (contents w p1)) (AreHomesKnown g (w.now Home) (records_of g t text all) (contents v p0) (contents w p1))
+          homes = on_told_weaker {T = T} (Err e) (AreHomesKnown g (w.now Home) (records_of g t start a) (contents v p0) (contents w p1)) (AreHomesKnown g (w.now Home) (records_of g t text all) (contents v p0) (contents w p1))
               (λ known n lt. ⊎_elim (λ same. inl same) (λ version. inr (version_whole _ _ ((contents v p0).page n) _ (whole.page n) version)) (known n lt)) it.homes;
-          moments = weaker it.moments (moment_whole g v log ds (lasts p0.shelf) (records_of g t text a) (records_of g t text all) (contents v p0) whole);
+          moments = weaker it.moments (moment_whole g v log ds (lasts p0.shelf) (records_of g t start a) (records_of g t text all) (contents v p0) whole);
         };
   }
 
@@ -136,6 +139,24 @@ on_told_cases (Ok x) A B P f h a b = f a
 on_told_cases (Err Disk) A B P f h a b = tt
 on_told_cases (Err (Damaged n)) A B P f h a b = h b
 on_told_cases (Err Memory) A B P f h a b = h b
+
+-- what holds behind a refusal, whatever the call would have answered
+pub told_as : (T U : Type 0) (e : PoolFault) (P : Type 0) → OnTold {T = T} (Err e) P → OnTold {T = U} (Err e) P
+told_as T U Disk P p = tt
+told_as T U (Damaged n) P p = p
+told_as T U Memory P p = p
+
+-- no record is repeated on a page
+pub nothing_repeated : (p : ℕ) (t : Table) (places : List Place) (m : Units) → IsPageRepeated p (page_records t [] places) m m
+nothing_repeated p t places m = record {
+  page = ap (λ (rs : List OnPage). repeated rs (m.page p)) (sym (blank_page t places));
+  since = ap (λ (rs : List OnPage). since_repeated rs (m.page p) (m.page_since p)) (sym (blank_page t places));
+  other_pages = λ n differ. refl;
+  other_sinces = λ n differ. refl;
+  byte = λ b i. refl;
+  band_since = λ b. refl;
+  marked = λ b i. refl;
+}
 
 last_below : (tail : ℕ) (places : List Place) → 0 < length places → ArePlacesBelow tail places → last_lsn places < tail
 last_below tail [] some below = absurd (omega (arith, some))

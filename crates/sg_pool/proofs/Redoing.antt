@@ -1,5 +1,5 @@
 -- Runs of redo, one after another.
-use Rattle.std.proofs.Common.{◌≡◌, ◌≢◌, ◌⊎◌, inl, inr, ⊎_elim, ◌<◌, ◌+◌, ◌++◌, ℕ, zero, suc, Bool, true, false, IsTrue, Option, None, Some, Result, Ok, Err, List, [], ◌∷◌, sym, ◌∙◌, ap, subst, arith, append-nil}
+use Rattle.std.proofs.Common.{◌≡◌, ◌≢◌, ◌⊎◌, inl, inr, ⊎_elim, ◌<◌, ◌+◌, ◌++◌, ℕ, zero, suc, Bool, true, false, IsTrue, Option, None, Some, Result, Ok, Err, List, [], ◌∷◌, refl, sym, ◌∙◌, ap, subst, arith, append-nil}
 use Rattle.std.specs.Prelude.{OnOk, OnErr, IfErr}
 use Rattle.std.proofs.lemmas.List.Elements.{All-filter, All-append}
 use Rattle.std.proofs.lemmas.Result.{on_ok_weaker}
@@ -28,7 +28,7 @@ use Rattle.sg_pool.specs.Well.{IsWell}
 use Rattle.sg_pool.proofs.Bringing.{on_told_weaker, risen_more}
 use Rattle.sg_pool.proofs.Counting.{grown_then, heeds_then}
 use Rattle.sg_pool.proofs.Forcing.{is_forced}
-use Rattle.sg_pool.proofs.Placed.{AreParts, places_first, places_second, are_together, all_first, all_second, page_nothing}
+use Rattle.sg_pool.proofs.Placed.{AreJoined}
 use Rattle.sg_pool.proofs.RedoHomes.{exact_then, told_partly}
 use Rattle.sg_pool.proofs.Redone.{redone_then, partly_then}
 use Rattle.sg_pool.proofs.RedoMoments.{tail_is_gate, forced_twice, forced_same, moments_then, homes_then}
@@ -76,9 +76,18 @@ marks_below v pool g tail backed logged b i marked = ⊎_elim
     not_both : false ≡ true → ⊥
     not_both e = cc
 
--- A RUN, AND THEN ANOTHER, over places of other units
-module _ {U T : Type 0} (g : Geometry) (told : Bool) (t : Table) (text : List ℕ) (all a b : List Place) (parts : AreParts all a b) (v w z : View) (log log1 log2 : Tail) (p0 p1 p2 : Pool) (u : U) (r : Result T PoolFault)
-    (first : IsRun {T = U} g told t text a v w log log1 p0 p1 (Ok u)) (second : IsRun g told t text b w z log1 log2 p1 p2 r) where
+-- a list has no elements, or some
+pub empty_or_not : (places : List Place) → (places ≡ []) ⊎ (places ≢ [])
+empty_or_not [] = inl refl
+empty_or_not (p ∷ places) = inr (λ is. cc)
+
+second_alone : {A B C D : Type 0} → (A × B) ⊎ (C × D) → (A → ⊥) → C × D
+second_alone (inl is) not = absurd (not is.0)
+second_alone (inr is) not = is
+
+-- A RUN, AND THEN ANOTHER, which are one together
+module _ {U T : Type 0} (g : Geometry) (told : Bool) (t : Table) (start text : List ℕ) (all a b : List Place) (joined : AreJoined g t start text all a b) (v w z : View) (log log1 log2 : Tail) (p0 p1 p2 : Pool) (u : U) (r : Result T PoolFault)
+    (first : IsRun {T = U} g told t start a v w log log1 p0 p1 (Ok u)) (second : IsRun g told t text b w z log1 log2 p1 p2 r) where
   area : log1.area ≡ log.area
   area = ⊎_elim (λ same. ap (λ (l : Tail). l.area) same) (λ gone. ap (λ (l : Tail). l.area) gone ∙ (is_forced log).area) first.log_kept
 
@@ -91,15 +100,9 @@ module _ {U T : Type 0} (g : Geometry) (told : Bool) (t : Table) (text : List �
       (λ gone. ⊎_elim (λ e. inr (gone ∙ ap forced e)) (λ e. inr (gone ∙ (ap forced e ∙ forced_twice log))) first.log_kept)
       second.log_kept
 
-  neither : (n : ℕ) → places_of n all ≡ [] → (places_of n a ≡ []) × (places_of n b ≡ [])
-  neither n none = ⊎_elim
-      (λ no_b. (sym (places_first all a b parts n no_b) ∙ none, no_b))
-      (λ no_a. (no_a, sym (places_second all a b parts n no_a) ∙ none))
-      (parts.apart n)
-
   absent : OnOk r ((n : ℕ) → places_of n all ≡ [] → frame_holding p0 n ≡ None → frame_holding p2 n ≡ None)
   absent = on_ok_weaker r (λ (rest : (n : ℕ) → places_of n b ≡ [] → frame_holding p1 n ≡ None → frame_holding p2 n ≡ None) (n : ℕ) (none : places_of n all ≡ []) (away : frame_holding p0 n ≡ None).
-      let it = neither n none in rest n it.1 (first.absent n it.0 away)) second.absent
+      let it = joined.neither n none in rest n it.1 (first.absent n it.0 away)) second.absent
 
   lasts_then : OnOk r (AreLastsRedone g all p0 p2)
   lasts_then = on_ok_weaker r both second.lasts
@@ -107,16 +110,13 @@ module _ {U T : Type 0} (g : Geometry) (told : Bool) (t : Table) (text : List �
       both : AreLastsRedone g b p1 p2 → AreLastsRedone g all p0 p2
       both late = record {
         its = λ n o some since. ⊎_elim
-            (λ no_b.
-            let same = places_first all a b parts (g.pages + n) no_b in
-            let kept = late.others n o no_b since in
-            kept.1 ∙ (first.lasts.its n o (λ no_a. some (same ∙ no_a)) kept.0 ∙ ap (λ (l : List Place). last_lsn l) (sym same)))
-            (λ no_a.
-            let same = places_second all a b parts (g.pages + n) no_a in
-            late.its n o (λ no_b. some (same ∙ no_b)) since ∙ ap (λ (l : List Place). last_lsn l) (sym same))
-            (parts.apart (g.pages + n));
+            (λ is.
+            let kept = late.others n o is.0 since in
+            kept.1 ∙ (first.lasts.its n o (λ no_a. some (is.1 ∙ no_a)) kept.0 ∙ ap (λ (l : List Place). last_lsn l) (sym is.1)))
+            (λ is. late.its n o (λ no_b. some (is.1 ∙ no_b)) since ∙ ap (λ (l : List Place). last_lsn l) (sym is.1))
+            (joined.either (g.pages + n));
         others = λ n o none since.
-            let it = neither (g.pages + n) none in
+            let it = joined.neither (g.pages + n) none in
             let kept = late.others n o it.1 since in
             let was = first.lasts.others n o it.0 kept.0 in
             (was.0, kept.1 ∙ was.1);
@@ -124,30 +124,34 @@ module _ {U T : Type 0} (g : Geometry) (told : Bool) (t : Table) (text : List �
 
   -- what is told
   module _ (is_told : IsTrue told) (apart : log.area ≢ Home) (backs : Backs g v p0) where
-    one : AreRedone {T = U} g t text a v w p0 p1 (Ok u)
+    one : AreRedone {T = U} g t start a v w p0 p1 (Ok u)
     one = first.units_are is_told apart backs
 
     two : AreRedone g t text b w z p1 p2 r
     two = second.units_are is_told (apart_still apart) one.backed
 
-    -- a page without places in the first part is as it was
-    page_still : (n : ℕ) → n < g.pages → places_of n a ≡ [] → (contents w p1).page n ≡ (contents v p0).page n
-    page_still n lt none = (one.redone.pages n lt).page ∙ ap (λ (rs : List OnPage). repeated rs ((contents v p0).page n)) (ap (page_records t text) none ∙ page_nothing t text)
+    -- a page without records in the first run is as it was
+    page_still : (n : ℕ) → n < g.pages → page_records t start (places_of n a) ≡ [] → (contents w p1).page n ≡ (contents v p0).page n
+    page_still n lt none = (one.redone.pages n lt).page ∙ ap (λ (rs : List OnPage). repeated rs ((contents v p0).page n)) none
+
+    late_well : (n : ℕ) → n < g.pages → frame_holding p0 n ≡ None → ((contents w p1).page n ≡ (contents v p0).page n) → (frame_holding p1 n ≡ None → IsWell ((contents w p1).page n)) → (places_of n a ≡ []) ⊎ (places_of n a ≢ []) → IsWell ((contents v p0).page n)
+    late_well n lt away same rest (inl no_a) = subst IsWell same (rest (first.absent n no_a away))
+    late_well n lt away same rest (inr some_a) = one.well n lt some_a away
 
     units_then : AreRedone g t text all v z p0 p2 r
     units_then = record {
       backed = two.backed;
-      redone = on_ok_weaker r (redone_then g (records_of g t text all) (records_of g t text a) (records_of g t text b) (are_together all a b parts g t text) (contents v p0) (contents w p1) (contents z p2) one.backed.clean one.redone) two.redone;
+      redone = on_ok_weaker r (redone_then g (records_of g t text all) (records_of g t start a) (records_of g t text b) joined.together (contents v p0) (contents w p1) (contents z p2) one.backed.clean one.redone) two.redone;
       partly = on_err_told r _ _ (λ (it : ArePartlyRedone g (records_of g t text b) (contents w p1) (contents z p2)).
-          partly_then g (records_of g t text all) (records_of g t text a) (records_of g t text b) (are_together all a b parts g t text) it.0 it.1 (contents v p0) (contents w p1) (contents z p2) one.backed.clean one.redone it.2) two.partly;
+          partly_then g (records_of g t text all) (records_of g t start a) (records_of g t text b) joined.together it.0 it.1 (contents v p0) (contents w p1) (contents z p2) one.backed.clean one.redone it.2) two.partly;
       untouched = on_told_two r (ArePartlyRedone g (records_of g t text b) (contents w p1) (contents z p2)) (AreHomesExact g (w.now Home).seen (z.now Home).seen (records_of g t text b) (contents w p1) (contents z p2)) (AreHomesExact g (v.now Home).seen (z.now Home).seen (records_of g t text all) (contents v p0) (contents z p2))
-          (λ it exact. exact_then g (v.now Home).seen (w.now Home) (z.now Home).seen (records_of g t text all) (records_of g t text a) (records_of g t text b) it.0 (are_together all a b parts g t text) it.1 (contents v p0) (contents w p1) (contents z p2) one.backed one.redone it.2 one.untouched exact)
+          (λ it exact. exact_then g (v.now Home).seen (w.now Home) (z.now Home).seen (records_of g t text all) (records_of g t start a) (records_of g t text b) it.0 joined.together it.1 (contents v p0) (contents w p1) (contents z p2) one.backed one.redone it.2 one.untouched exact)
           (told_partly r g (records_of g t text b) (contents w p1) (contents z p2) two.redone two.partly) two.untouched;
       well = on_ok_weaker r (λ (rest : (n : ℕ) → n < g.pages → places_of n b ≢ [] → frame_holding p1 n ≡ None → IsWell ((contents w p1).page n)) (n : ℕ) (lt : n < g.pages) (some : places_of n all ≢ []) (away : frame_holding p0 n ≡ None).
           ⊎_elim
-          (λ no_b. one.well n lt (λ no_a. some (places_first all a b parts n no_b ∙ no_a)) away)
-          (λ no_a. subst IsWell (page_still n lt no_a) (rest n lt (λ no_b. some (places_second all a b parts n no_a ∙ no_b)) (first.absent n no_a away)))
-          (parts.apart n)) two.well;
+          (λ is. one.well n lt (λ no_a. some (is.1 ∙ no_a)) away)
+          (λ is. late_well n lt away (page_still n lt is.0) (rest n lt (λ no_b. some (is.1 ∙ no_b))) (empty_or_not (places_of n a)))
+          (joined.either n)) two.well;
     }
 
   faults : IfErr r (RedoFails told log.area g v z p0 all)
@@ -156,10 +160,10 @@ module _ {U T : Type 0} (g : Geometry) (told : Bool) (t : Table) (text : List �
       fails : (e : PoolFault) → RedoFails told log1.area g w z p1 b e → RedoFails told log.area g v z p0 all e
       fails Disk risen = risen_more v.faults w.faults z.faults first.later risen
       fails (Damaged page) is =
-          let no_a : places_of page.0 a ≡ [] = ⊎_elim (λ no_b. absurd (is.1 no_b)) (λ e. e) (parts.apart page.0) in (
+          let it = second_alone (joined.either page.0) is.1 in (
             is.0,
-            λ none. is.1 (sym (places_second all a b parts page.0 no_a) ∙ none),
-            λ is_told apart backs well. is.2 is_told (apart_still apart) (one is_told apart backs).backed (subst IsWell (sym (page_still is_told apart backs page.0 is.0 no_a)) well),
+            λ none. is.1 (sym it.1 ∙ none),
+            λ is_told apart backs well. is.2 is_told (apart_still apart) (one is_told apart backs).backed (subst IsWell (sym (page_still is_told apart backs page.0 is.0 it.0)) well),
           )
       fails Memory is = is
 
@@ -183,8 +187,8 @@ module _ {U T : Type 0} (g : Geometry) (told : Bool) (t : Table) (text : List �
 
   -- where the part is durable
   module _ (ds : List Numbered) (is_told : IsTrue told) (apart : log.area ≢ Home) (backs : Backs g v p0) (durable : IsDurable v log ds p0 all) where
-    first_durable : AreDurablyRedone {T = U} g t text a v w log ds p0 p1 (Ok u)
-    first_durable = first.durable ds is_told apart backs (record { holds = durable.holds; logged = durable.logged; below = all_first all a b parts (λ p. p.lsn < log.gate) durable.below })
+    first_durable : AreDurablyRedone {T = U} g t start a v w log ds p0 p1 (Ok u)
+    first_durable = first.durable ds is_told apart backs (record { holds = durable.holds; logged = durable.logged; below = joined.first_below log.gate durable.below })
 
     log_same : (log1 ≡ log) × Holds w log ds []
     log_same = ⊎_elim
@@ -195,23 +199,23 @@ module _ {U T : Type 0} (g : Geometry) (told : Bool) (t : Table) (text : List �
     second_durable : AreDurablyRedone g t text b w z log ds p1 p2 r
     second_durable = subst (λ (l : Tail). AreDurablyRedone g t text b w z l ds p1 p2 r) log_same.0
         (second.durable ds is_told (apart_still apart) (one is_told apart backs).backed
-        (subst (λ (l : Tail). IsDurable w l ds p1 b) (sym log_same.0) (record { holds = log_same.1; logged = first_durable.logged; below = all_second all a b parts (λ p. p.lsn < log.gate) durable.below })))
+        (subst (λ (l : Tail). IsDurable w l ds p1 b) (sym log_same.0) (record { holds = log_same.1; logged = first_durable.logged; below = joined.second_below log.gate durable.below })))
 
     durable_then : AreDurablyRedone g t text all v z log ds p0 p2 r
     durable_then =
         let here = one is_told apart backs in
         let there = two is_told apart backs in
-        let together = are_together all a b parts g t text in
+        let together = joined.together in
         let marks : (n i : ℕ) → (contents v p0).marked n i ≡ true → lasts p0.shelf n < log.gate =
         λ n i on. subst (λ (d : ℕ). lasts p0.shelf n < d) (tail_is_gate v log ds durable.holds) (marks_below v p0 g (tail_of log) backs durable.logged.bands n i on) in
         let below : (n : ℕ) → AreChangesBelow log.gate ((records_of g t text all).band n) = λ n. window_below t text log.gate (places_of (g.pages + n) all) (All-filter _ (λ p. p.lsn < log.gate) all durable.below) in
         record {
           logged = second_durable.logged;
           homes = on_told_two r (Backs g z p2) (AreHomesKnown g (z.now Home) (records_of g t text b) (contents w p1) (contents z p2)) (AreHomesKnown g (z.now Home) (records_of g t text all) (contents v p0) (contents z p2))
-              (λ backs2 known. homes_then g v w z log ds (lasts p0.shelf) (lasts p1.shelf) (records_of g t text all) (records_of g t text a) (records_of g t text b) together (contents v p0) (contents w p1)
+              (λ backs2 known. homes_then g v w z log ds (lasts p0.shelf) (lasts p1.shelf) (records_of g t text all) (records_of g t start a) (records_of g t text b) together (contents v p0) (contents w p1)
               (first.bytes is_told) here.backed.ready first_durable.moments here.redone marks below (contents z p2) (second.bytes is_told) backs2.ready second_durable.moments first_durable.homes known)
               there.backed second_durable.homes;
-          moments = moments_then g v w z log ds (lasts p0.shelf) (lasts p1.shelf) (records_of g t text all) (records_of g t text a) (records_of g t text b) together (contents v p0) (contents w p1)
+          moments = moments_then g v w z log ds (lasts p0.shelf) (lasts p1.shelf) (records_of g t text all) (records_of g t start a) (records_of g t text b) together (contents v p0) (contents w p1)
               (first.bytes is_told) here.backed.ready first_durable.moments here.redone marks below second_durable.moments;
         }
 
@@ -226,7 +230,7 @@ module _ {U T : Type 0} (g : Geometry) (told : Bool) (t : Table) (text : List �
     pins = λ f. second.pins f ∙ first.pins f;
     count = second.count ∙ first.count;
     bytes = second.bytes;
-    below = λ tail logged every. second.below tail (first.below tail logged (all_first all a b parts (λ p. p.lsn < tail) every)) (all_second all a b parts (λ p. p.lsn < tail) every);
+    below = λ tail logged every. second.below tail (first.below tail logged (joined.first_below tail every)) (joined.second_below tail every);
     lasts = lasts_then;
     absent = absent;
     faults = faults;

@@ -280,7 +280,7 @@ done_number r page sets is = either (nat_lt (lsn_of page) r.lsn) (r.makes page) 
     either true (Some new) set so = set
     either false o set so = absurd (not_covered so)
 
-below_repeated : (tail : ℕ) (rs : List OnPage) (page : List ℕ) (since : Option ℕ) → AreNumbered tail rs → ((o : ℕ) → since ≡ Some o → lsn_of page < tail) → (o : ℕ) → since_repeated rs page since ≡ Some o → lsn_of (repeated rs page) < tail
+pub below_repeated : (tail : ℕ) (rs : List OnPage) (page : List ℕ) (since : Option ℕ) → AreNumbered tail rs → ((o : ℕ) → since ≡ Some o → lsn_of page < tail) → (o : ℕ) → since_repeated rs page since ≡ Some o → lsn_of (repeated rs page) < tail
 below_repeated tail [] page since numbered below o some = below o some
 below_repeated tail (r ∷ rs) page since numbered below o some =
     let next : (x : ℕ) → since_after r page since ≡ Some x → lsn_of (redone r page) < tail = λ x is. ⊎_elim

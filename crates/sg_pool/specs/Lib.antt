@@ -15,6 +15,7 @@ pub mod Redoing
 pub mod Redone
 pub mod Repeated
 pub mod Shelves
+pub mod Together
 pub mod Units
 pub mod Untouched
 pub mod Well

@@ -8,9 +8,10 @@
 //! whatever was evicted; that none goes home before its last change is durable in the log, a page not but
 //! through the double-write area, up to 32 at once, and of a band exactly the bytes that were written,
 //! also where a call is stopped at any moment; that redo of a page, of a band or of a whole part of the
-//! log is each unit's records repeated on it, through loans that are back at the return; which frame goes
-//! next; and which is the oldest change that isn't on the disk. After it is made it takes no memory, and
-//! no call looks for a page or a band.
+//! log is each unit's records repeated on it, through loans that are back at the return, of a part also
+//! with many pages at once in several threads; which frame goes next; and which is the oldest change
+//! that isn't on the disk. After it is made it needs no memory: `redo_in_parallel` takes some for a
+//! while, and does without where it is refused. No call looks for a page or a band.
 #![tactic(auto)]
 
 mod bands;
@@ -29,6 +30,7 @@ mod repeat;
 mod settle;
 mod shelf;
 mod slot;
+mod together;
 mod well;
 mod windows;
 

@@ -57,7 +57,7 @@ impl Pool {
     /// A pool for a store of this size, with as many frames as its superblock says. No page is in a
     /// frame, and the lower frames are used first.
     ///
-    /// `Memory`, where memory is refused, is the only refusal; no other call takes any.
+    /// `Memory`, where memory is refused, is the only refusal; no other call needs any.
     pub fn new(alloc: Global, geometry: &Super) -> Result<Pool, PoolFault>
         requires { IsSuper geometry.now }
         ensures size { IfOk result (λ pool. sizes pool ≡ record { pages = geometry.now.pages; bands = geometry.now.bands }) }

@@ -1,7 +1,8 @@
 -- What replay leaves of a unit.
-use Rattle.std.specs.Prelude.{◌≤◌, ℕ, ◌+◌, ◌==◌, if◌then◌else◌, Bool, List, length, take, drop}
+use Rattle.std.specs.Prelude.{◌≡◌, ◌⊎◌, ◌≤◌, ℕ, ◌+◌, ◌==◌, if◌then◌else◌, Bool, List, length, take, drop}
 use Rattle.std.specs.List.{All}
 use Rattle.std.specs.Ptr.{Ptr}
+use Rattle.sg_base.specs.Page.{IsSlotted}
 use Rattle.sg_frames.specs.declared.place.Place as frames
 use Rattle.sg_ops.specs.Table.{Table}
 use Rattle.sg_redo.specs.declared.place.Place.{Place}
@@ -41,3 +42,7 @@ replayed_unit t text places u =
     let own = own_places places u in
     if is_page u then record (with_bytes u (repeated (page_records t text own) u.loan.bytes)) { since = since_repeated (page_records t text own) u.loan.bytes u.since }
     else record (with_bytes u (replayed (window_records t text own) u.loan.bytes)) { dirty = marks_with (window_records t text own) u.dirty; since = since_replayed (window_records t text own) u.since }
+
+-- a page is as it was once the records of its places are repeated, or it is a page of slots
+abbrev pub StaysWell : Table → List ℕ → List Place → code.Unit → Type 0
+StaysWell t text places u = length u.loan.bytes ≡ 4096 → let rs = page_records t text (own_places places u) in (repeated rs u.loan.bytes ≡ u.loan.bytes) ⊎ IsSlotted (repeated rs u.loan.bytes)

@@ -2,7 +2,7 @@
 ghost use Rattle.std.specs.Prelude.{◌≡◌, ◌<◌, ◌+◌, ℕ, map, sum_by};
 ghost use Rattle.std.specs.List.{All};
 ghost use Rattle.sg_ops.specs.Table.{table_of};
-ghost use Rattle.sg_redo.specs.Units.{Lies, AreKnown, lent_at, replayed_unit};
+ghost use Rattle.sg_redo.specs.Units.{Lies, AreKnown, StaysWell, lent_at, replayed_unit};
 
 use crate::place::Place;
 use crate::replaying::{repeat_unit, tick_all};
@@ -40,6 +40,8 @@ pub fn replay_all<R: Threads + Sync, L: Ledger>(
     ensures units { units.new ≡ map (replayed_unit (table_of record_meaning range_meaning ops.now) text.now places.now) units.old }
     // Each loan is of the frame or window that it was of.
     ensures lent { map lent_at units.new ≡ map lent_at units.old }
+    // Each page is as it was then, or one of slots.
+    ensures well { All (StaysWell (table_of record_meaning range_meaning ops.now) text.now places.now) units.old }
     ensures steps { steps.new ≡ steps.old + sum_by (λ u. u.count) units.old }
 {
     thread::for_each_mut(
@@ -48,7 +50,8 @@ pub fn replay_all<R: Threads + Sync, L: Ledger>(
         threads,
         &|_, unit: &mut Unit|
             requires { Lies places.now unit.now × AreKnown (table_of record_meaning range_meaning ops.now) text.now places.now }
-            ensures { unit.exit.now ≡ replayed_unit (table_of record_meaning range_meaning ops.entry.now) text.entry.now places.entry.now unit.entry.now }
+            ensures unit { unit.exit.now ≡ replayed_unit (table_of record_meaning range_meaning ops.entry.now) text.entry.now places.entry.now unit.entry.now }
+            ensures well { StaysWell (table_of record_meaning range_meaning ops.entry.now) text.entry.now places.entry.now unit.entry.now }
         { repeat_unit(unit, places, text, ops) },
     );
     tick_places(units, steps);

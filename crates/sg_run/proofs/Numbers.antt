@@ -14,12 +14,13 @@ use Rattle.sg_model.specs.Touches.{cell, touches, covers, same_resource, conflic
 use Rattle.sg_model.specs.Laws.{CellContents}
 use Rattle.sg_model.proofs.Footprint.{footprint}
 use Rattle.sg_model.proofs.Meeting.{conflict_law, resource_same, resource_self}
-use Rattle.sg_run.specs.Run.{Run, start, live_objects, began, committed, aborted, with_locks, did, stop}
-use Rattle.sg_run.specs.Numbers.{Refusal, IsGranted, Begins, Does, Commits, Aborts, Flushes, Checkpoints, Leads, CallsAreSerial, stopped_in, at_log_end}
+use Rattle.sg_run.specs.Run.{Run, start, live_objects, began, committed, aborted, saved, rolled_back, with_locks, did, stop}
+use Rattle.sg_run.specs.Numbers.{Refusal, MarkRefusal, IsGranted, Begins, Does, Commits, Aborts, Saves, RollsBack, Flushes, Checkpoints, Leads, CallsAreSerial, stopped_in, at_log_end}
 use Rattle.sg_run.specs.Numbers.Refusal.{Stopped, NoTransaction, TooManyLive, Busy, LocksFull, Because, NoSpace, NoBands, LogEnd, Memory, Disk}
-use Rattle.sg_run.specs.Numbers.Leads.{no_calls, begins, does, commits, aborts, flushes, checkpoints}
+use Rattle.sg_run.specs.Numbers.MarkRefusal.{NoMark, MarksFull, Otherwise}
+use Rattle.sg_run.specs.Numbers.Leads.{no_calls, begins, does, commits, aborts, saves, rolls_back, flushes, checkpoints}
 use Rattle.sg_run.specs.Serial.{IsSound}
-use Rattle.sg_run.proofs.Serial.{UnlessStopped, begin_stays, commit_stays, abort_stays, serial_run, start_stays}
+use Rattle.sg_run.proofs.Serial.{UnlessStopped, begin_stays, commit_stays, abort_stays, save_stays, roll_stays, serial_run, start_stays}
 
 module _ (t : Operations) where
   -- a granted operation is in nobody's way
@@ -110,6 +111,38 @@ module _ (t : Operations) where
   abort_keeps x y tail before now u (Err (NoBands free need)) h k = absurd h
   abort_keeps x y tail before now u (Err Memory) h k = absurd h
 
+  pub save_keeps : (x y : Run) (tail before now u : ℕ) (r : Result ℕ MarkRefusal) → Saves tail before now u x r y → UnlessStopped t x → UnlessStopped t y
+  save_keeps x y tail before now u (Ok n) h k = along (saved x u h.5.0) y h.5.2 (λ none. save_stays t x u h.5.0 (k h.0))
+  save_keeps x y tail before now u (Err (Otherwise Stopped)) h k = along x y h.1 k
+  save_keeps x y tail before now u (Err (Otherwise NoTransaction)) h k = along x y h.2 k
+  save_keeps x y tail before now u (Err MarksFull) h k = along x y h.3 k
+  save_keeps x y tail before now u (Err (Otherwise LogEnd)) h k = along x y h.4 k
+  save_keeps x y tail before now u (Err (Otherwise Disk)) h k = down_disk x y h.3.after
+  save_keeps x y tail before now u (Err NoMark) h k = absurd h
+  save_keeps x y tail before now u (Err (Otherwise TooManyLive)) h k = absurd h
+  save_keeps x y tail before now u (Err (Otherwise (Busy holder))) h k = absurd h
+  save_keeps x y tail before now u (Err (Otherwise LocksFull)) h k = absurd h
+  save_keeps x y tail before now u (Err (Otherwise (Because reason))) h k = absurd h
+  save_keeps x y tail before now u (Err (Otherwise (NoSpace free reserved need))) h k = absurd h
+  save_keeps x y tail before now u (Err (Otherwise (NoBands free need))) h k = absurd h
+  save_keeps x y tail before now u (Err (Otherwise Memory)) h k = absurd h
+
+  pub roll_keeps : (x y : Run) (tail before now u mark : ℕ) (r : Result (Unit {0}) MarkRefusal) → RollsBack tail before now u mark x r y → UnlessStopped t x → UnlessStopped t y
+  roll_keeps x y tail before now u mark (Ok done) h k = along (rolled_back x u h.2.0.time mark) y h.2.2 (λ none. roll_stays t x u h.2.0.time mark h.1 (k h.0))
+  roll_keeps x y tail before now u mark (Err (Otherwise Stopped)) h k = along x y h.1 k
+  roll_keeps x y tail before now u mark (Err (Otherwise NoTransaction)) h k = along x y h.2 k
+  roll_keeps x y tail before now u mark (Err NoMark) h k = along x y h.3 k
+  roll_keeps x y tail before now u mark (Err (Otherwise Disk)) h k = down_disk x y h.3.after
+  roll_keeps x y tail before now u mark (Err (Otherwise LogEnd)) h k = down_log x y h.3
+  roll_keeps x y tail before now u mark (Err MarksFull) h k = absurd h
+  roll_keeps x y tail before now u mark (Err (Otherwise TooManyLive)) h k = absurd h
+  roll_keeps x y tail before now u mark (Err (Otherwise (Busy holder))) h k = absurd h
+  roll_keeps x y tail before now u mark (Err (Otherwise LocksFull)) h k = absurd h
+  roll_keeps x y tail before now u mark (Err (Otherwise (Because reason))) h k = absurd h
+  roll_keeps x y tail before now u mark (Err (Otherwise (NoSpace free reserved need))) h k = absurd h
+  roll_keeps x y tail before now u mark (Err (Otherwise (NoBands free need))) h k = absurd h
+  roll_keeps x y tail before now u mark (Err (Otherwise Memory)) h k = absurd h
+
   pub flush_keeps : (x y : Run) (before now : ℕ) (r : Result (Unit {0}) Refusal) → Flushes before now x r y → UnlessStopped t x → UnlessStopped t y
   flush_keeps x y before now (Ok done) h k = along x y h.1 k
   flush_keeps x y before now (Err Stopped) h k = along x y h.1 k
@@ -144,6 +177,8 @@ module _ (t : Operations) where
   leads_keep x _ (does y z begin tail before now u op r some h) k = does_keep y z begin tail before now u op r h (leads_keep x y some k)
   leads_keep x _ (commits y z tail before now u r some h) k = commit_keeps y z tail before now u r h (leads_keep x y some k)
   leads_keep x _ (aborts y z tail before now u r some h) k = abort_keeps y z tail before now u r h (leads_keep x y some k)
+  leads_keep x _ (saves y z tail before now u r some h) k = save_keeps y z tail before now u r h (leads_keep x y some k)
+  leads_keep x _ (rolls_back y z tail before now u mark r some h) k = roll_keeps y z tail before now u mark r h (leads_keep x y some k)
   leads_keep x _ (flushes y z before now r some h) k = flush_keeps y z before now r h (leads_keep x y some k)
   leads_keep x _ (checkpoints y z tail before now r some h) k = checkpoint_keeps y z tail before now r h (leads_keep x y some k)
 

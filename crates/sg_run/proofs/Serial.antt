@@ -29,7 +29,7 @@ use Rattle.sg_words.specs.Requests.Request.{Begin, Commit, Abort, Do}
 use Rattle.sg_words.specs.Answers.{Answer}
 use Rattle.sg_run.specs.Answer.{answer_of, IsSaid}
 use Rattle.sg_words.specs.Answers.Answer.{Silent, BadSyntax, Stopped, NoTransaction, IsLive, TooManyLive, Busy, LocksFull, Refused, NoSpace, NoBands, Memory, LogEnd, Disk, Said}
-use Rattle.sg_run.specs.Run.{Run, start, live_named, live_objects, committed_objects, began, committed, aborted, with_locks, did, holder_of, held_with, turn_begin, turn_commit, turn_abort, turn_held, turn_op, turn_request, turn, WouldReply, stop, stop_at, only_locks, lacking, full, broken, LineBy, Lines, Turns, MOST_LIVE, MOST_HELD}
+use Rattle.sg_run.specs.Run.{Run, start, live_named, live_objects, committed_objects, began, committed, aborted, saved, rolled_back, with_locks, did, holder_of, held_with, turn_begin, turn_commit, turn_abort, turn_held, turn_op, turn_request, turn, WouldReply, stop, stop_at, only_locks, lacking, full, broken, LineBy, Lines, Turns, MOST_LIVE, MOST_HELD}
 use Rattle.sg_run.specs.Serial.{IsSound, IsSerial, RunsAreSerial}
 
 found_live : (b : Bool) (m l : Live) (ls : List Live) (r : Option Live) → (r ≡ Some l → is_live ls l.transaction ≡ true) → cond b (Some m) r ≡ Some l → (((m.transaction == l.transaction) || is_live ls l.transaction) ≡ true)
@@ -67,6 +67,18 @@ module _ (t : Operations) where
   abort_stays x number live k = record {
     serial = kept.abort_keeps CellContents (step t) cell touches covers same_resource resource_same (footprint t) x.so_far number live k.serial;
     once = once_released same_resource number x.so_far.held k.once;
+  }
+
+  pub save_stays : (x : Run) (number mark : ℕ) → IsSound t x → IsSound t (saved x number mark)
+  save_stays x number mark k = record {
+    serial = theorems.save_keeps CellContents (step t) cell touches covers same_resource resource_same (footprint t) x.so_far number mark k.serial;
+    once = k.once;
+  }
+
+  pub roll_stays : (x : Run) (number time mark : ℕ) → is_live x.so_far.live number ≡ true → IsSound t x → IsSound t (rolled_back x number time mark)
+  roll_stays x number time mark live k = record {
+    serial = theorems.roll_keeps CellContents (step t) cell touches covers same_resource resource_same (footprint t) x.so_far number time mark live k.serial;
+    once = k.once;
   }
 
   pub locks_stay : (x : Run) (number : ℕ) (op : Op) → is_live x.so_far.live number ≡ true → holder_of t x number op ≡ None → IsSound t x → IsSound t (with_locks t x number op)
@@ -209,6 +221,7 @@ module _ (t : Operations) where
     open_replies = Replays_of_Held (step t) touches (reads covers) (writes covers) (held_of x.so_far.held) (committed_objects t x) (open_entries x.so_far) k.serial.held;
     alone = λ none. theorems.none_live_now CellContents (step t) cell touches covers same_resource resource_same (footprint t) x.so_far k.serial none;
     leaves_out = λ u live. theorems.aborted_objects CellContents (step t) cell touches covers same_resource resource_same (footprint t) x.so_far u live k.serial;
+    goes_back = λ u time mark live. theorems.rolled_objects CellContents (step t) cell touches covers same_resource resource_same (footprint t) x.so_far u time mark live k.serial;
     adds = λ u live. theorems.committed_objects CellContents (step t) cell touches covers same_resource resource_same (footprint t) x.so_far u live k.serial;
     pairs = k.once;
   }

@@ -4,7 +4,7 @@ use Rattle.std.specs.Prelude.{◌≡◌, ℕ, ◌+◌, ◌<◌, ◌≤◌, ◌^�
 use Rattle.sg_base.specs.Ends.{HasRisen}
 use Rattle.sg_ops.specs.Table.{Table as Operations}
 use Rattle.sg_serial.specs.Locks.{first_holder}
-use Rattle.sg_serial.specs.Runs.{is_live}
+use Rattle.sg_serial.specs.Runs.{Mark, is_live, nth_mark}
 use Rattle.sg_model.specs.declared.reason.Reason.{Reason}
 use Rattle.sg_model.specs.declared.stop.Stop.TheVariants as stops
 use Rattle.sg_model.specs.Objects.{Objects}
@@ -14,7 +14,7 @@ use Rattle.sg_model.specs.Verb.Verb.{Keys}
 use Rattle.sg_model.specs.Step.{step, is_changing}
 use Rattle.sg_model.specs.Touches.{touches, conflict}
 use Rattle.sg_run.specs.Serial.{IsSerial}
-use Rattle.sg_run.specs.Run.{Run, start, MOST_LIVE, MOST_HELD, began, committed, aborted, did, with_locks, held_with, live_objects, stop, with_commit}
+use Rattle.sg_run.specs.Run.{Run, start, MOST_LIVE, MOST_HELD, MOST_MARKS, marks_of, began, saved, rolled_back, committed, aborted, did, with_locks, held_with, live_objects, stop, with_commit}
 
 -- Why a call is refused: the store had stopped; the transaction isn't live; as many are live as may be; this one holds something
 -- in conflict; too much would be held; the operation is refused; fewer pages are free than are reserved and needed; fewer bands are
@@ -31,6 +31,12 @@ pub data Refusal : Type 0 where
   LogEnd : Refusal
   Memory : Refusal
   Disk : Refusal
+
+-- Why a call on the marks of a transaction is refused: it has no such mark; it has as many as it may; or as another call is
+pub data MarkRefusal : Type 0 where
+  NoMark : MarkRefusal
+  MarksFull : MarkRefusal
+  Otherwise : (why : Refusal) → MarkRefusal
 
 -- no new work begins once the log's tail is above this byte
 abbrev pub NEW_WORK_END : ℕ
@@ -78,6 +84,30 @@ Aborts tail before now u x (Err NoTransaction) y = (x.stopped ≡ None) × (is_l
 Aborts tail before now u x (Err Disk) y = (x.stopped ≡ None) × (is_live x.so_far.live u ≡ true) × IsBroken before now x y
 Aborts tail before now u x (Err LogEnd) y = (x.stopped ≡ None) × (is_live x.so_far.live u ≡ true) × (y ≡ stop stops.LogEnd x) × IsAtEnd tail
 Aborts tail before now u x (Err other) y = ⊥
+
+-- A MARK IS SET, at the record with a number; the answer says how many the transaction then has
+abbrev pub Saves : (tail before now : ℕ) → (u : ℕ) → Run → Result ℕ MarkRefusal → Run → Type 0
+Saves tail before now u x (Ok n) y = (x.stopped ≡ None) × (is_live x.so_far.live u ≡ true) × (length (marks_of x u) < MOST_MARKS) × (tail ≤ NEW_WORK_END)
+    × (n ≡ length (marks_of x u) + 1) × ((number : ℕ) × (tail ≤ number) × (y ≡ saved x u number))
+Saves tail before now u x (Err (Otherwise Stopped)) y = IsSome x.stopped × (y ≡ x)
+Saves tail before now u x (Err (Otherwise NoTransaction)) y = (x.stopped ≡ None) × (is_live x.so_far.live u ≡ false) × (y ≡ x)
+Saves tail before now u x (Err MarksFull) y = (x.stopped ≡ None) × (is_live x.so_far.live u ≡ true) × (MOST_MARKS ≤ length (marks_of x u)) × (y ≡ x)
+Saves tail before now u x (Err (Otherwise LogEnd)) y = (x.stopped ≡ None) × (is_live x.so_far.live u ≡ true) × (length (marks_of x u) < MOST_MARKS) × (NEW_WORK_END < tail) × (y ≡ x)
+Saves tail before now u x (Err (Otherwise Disk)) y = (x.stopped ≡ None) × (is_live x.so_far.live u ≡ true) × (length (marks_of x u) < MOST_MARKS) × IsBroken before now x y
+Saves tail before now u x (Err other) y = ⊥
+
+-- GOING BACK TO A MARK, by its number in their order, of which the first is 1; with the tail at the return: a record of what undoes may
+-- come to the log's end
+abbrev pub RollsBack : (tail before now : ℕ) → (u mark : ℕ) → Run → Result (Unit {0}) MarkRefusal → Run → Type 0
+RollsBack tail before now u mark x (Ok done) y = (x.stopped ≡ None) × (is_live x.so_far.live u ≡ true)
+    × ((m : Mark) × (nth_mark mark (marks_of x u) ≡ Some m) × (y ≡ rolled_back x u m.time mark))
+RollsBack tail before now u mark x (Err (Otherwise Stopped)) y = IsSome x.stopped × (y ≡ x)
+RollsBack tail before now u mark x (Err (Otherwise NoTransaction)) y = (x.stopped ≡ None) × (is_live x.so_far.live u ≡ false) × (y ≡ x)
+RollsBack tail before now u mark x (Err NoMark) y = (x.stopped ≡ None) × (is_live x.so_far.live u ≡ true) × (nth_mark mark (marks_of x u) ≡ None) × (y ≡ x)
+RollsBack tail before now u mark x (Err (Otherwise Disk)) y = (x.stopped ≡ None) × (is_live x.so_far.live u ≡ true) × IsSome (nth_mark mark (marks_of x u)) × IsBroken before now x y
+RollsBack tail before now u mark x (Err (Otherwise LogEnd)) y = (x.stopped ≡ None) × (is_live x.so_far.live u ≡ true) × IsSome (nth_mark mark (marks_of x u))
+    × (y ≡ stop stops.LogEnd x) × IsAtEnd tail
+RollsBack tail before now u mark x (Err other) y = ⊥
 
 -- a flush or a truncation
 abbrev pub Flushes : (before now : ℕ) → Run → Result (Unit {0}) Refusal → Run → Type 0
@@ -138,6 +168,8 @@ pub data Leads (t : Operations) (x : Run) : Run → Type 0 where
   does : (y z : Run) (begin tail before now u : ℕ) (op : Op) (r : Result Reply Refusal) → Leads t x y → Does t begin tail before now u op y r z → Leads t x z
   commits : (y z : Run) (tail before now u : ℕ) (r : Result (Unit {0}) Refusal) → Leads t x y → Commits tail before now u y r z → Leads t x z
   aborts : (y z : Run) (tail before now u : ℕ) (r : Result (Unit {0}) Refusal) → Leads t x y → Aborts tail before now u y r z → Leads t x z
+  saves : (y z : Run) (tail before now u : ℕ) (r : Result ℕ MarkRefusal) → Leads t x y → Saves tail before now u y r z → Leads t x z
+  rolls_back : (y z : Run) (tail before now u mark : ℕ) (r : Result (Unit {0}) MarkRefusal) → Leads t x y → RollsBack tail before now u mark y r z → Leads t x z
   flushes : (y z : Run) (before now : ℕ) (r : Result (Unit {0}) Refusal) → Leads t x y → Flushes before now y r z → Leads t x z
   checkpoints : (y z : Run) (tail before now : ℕ) (r : Result (Unit {0}) Refusal) → Leads t x y → Checkpoints tail before now y r z → Leads t x z
 

@@ -3,7 +3,7 @@ use Rattle.std.specs.Prelude.{◌≡◌, ◌⊎◌, ℕ, ◌≤◌, IsTrue, nat_
 use Rattle.std.specs.Str.{bytes_eq}
 use Rattle.std.specs.List.{filter, find}
 use Rattle.sg_serial.specs.Machine.{Entry, run}
-use Rattle.sg_serial.specs.Runs.{Live, State, in_order, is_own, holder}
+use Rattle.sg_serial.specs.Runs.{Live, Mark, State, in_order, is_own, holder}
 use Rattle.sg_serial.specs.Runs as runs
 use Rattle.sg_ops.specs.Table.{Table as Operations}
 use Rattle.sg_model.specs.declared.stop.Stop.{Stop}
@@ -45,6 +45,10 @@ MOST_LIVE = 64
 abbrev pub MOST_HELD : ℕ
 MOST_HELD = 4096
 
+-- the most marks that a transaction has
+abbrev pub MOST_MARKS : ℕ
+MOST_MARKS = 16
+
 -- the live transaction with this name
 abbrev pub live_named : List Live → List ℕ → Option Live
 live_named live name = find (λ l. bytes_eq name l.name) live
@@ -82,6 +86,19 @@ committed x transaction = record x { so_far = runs.committed x.so_far transactio
 -- a transaction has aborted: what it did is left out, and what it held is free
 abbrev pub aborted : Run → ℕ → Run
 aborted x transaction = record x { so_far = runs.aborted x.so_far transaction }
+
+-- a transaction has set a mark, which was given this number
+abbrev pub saved : Run → (transaction number : ℕ) → Run
+saved x transaction number = record x { so_far = runs.saved x.so_far transaction number }
+
+-- a transaction has gone back to its mark with this number in their order, which was set at this time: what it did behind that is left
+-- out, and the marks behind it are gone. It is still live, and holds what it held
+abbrev pub rolled_back : Run → (transaction time mark : ℕ) → Run
+rolled_back x transaction time mark = record x { so_far = runs.rolled_back x.so_far transaction time mark }
+
+-- the marks of a live transaction
+abbrev pub marks_of : Run → ℕ → List Mark
+marks_of x transaction = runs.marks_of x.so_far.live transaction
 
 -- the store has stopped, for this reason
 abbrev pub stop : Stop → Run → Run

@@ -67,6 +67,7 @@ module _ (t : Operations) where
   line_keeps : (a : Around) (x y : Run) (line : Line) (answer : Answer) → LineBy t a x line answer y → UnlessStopped t x → UnlessStopped t y
   line_keeps a x y (OfStore upkeeps.Flush) answer h k = flush_keeps t x y a.before a.now h.0 h.2 k
   line_keeps a x y (OfStore upkeeps.Checkpoint) answer h k = checkpoint_keeps t x y a.begin a.before a.now h.0 h.2 k
+  line_keeps a x y (OfStore upkeeps.Truncate) answer h k = flush_keeps t x y a.before a.now h.0 h.2 k
   line_keeps a x y (Other Blank) answer h k = same x y h.1 k
   line_keeps a x y (Other Wrong) answer h k = same x y h.1 k
   line_keeps a x y (Other (Of name request)) answer h k = unless a name x.stopped x y request answer h k

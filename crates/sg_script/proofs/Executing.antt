@@ -89,6 +89,7 @@ checkpoint_stays tail before now x y why e (Err Disk) h = clash x.stopped why e 
 upkeep_stays : (a : Around) (upkeep : Upkeep) (x y : Run) (why : Stop) → x.stopped ≡ Some why → (r : Result (Unit {0}) Refusal) → KeepsUp a upkeep x r y → y ≡ x
 upkeep_stays a upkeeps.Flush x y why e r h = flush_stays a.before a.now x y why e r h
 upkeep_stays a upkeeps.Checkpoint x y why e r h = checkpoint_stays a.begin a.before a.now x y why e r h
+upkeep_stays a upkeeps.Truncate x y why e r h = flush_stays a.before a.now x y why e r h
 
 pub line_stays : (t : Operations) (a : Around) (x y : Run) (why : Stop) → x.stopped ≡ Some why → (line : Line) (answer : Answer) → LineBy t a x line answer y → y ≡ x
 line_stays t a x y why e (OfStore upkeep) answer h = upkeep_stays a upkeep x y why e h.0 h.2
@@ -198,6 +199,7 @@ caused_wider tail before now top bottom last line OfLog wide bb bn nl begin le h
     full_wider : (l : Line) → IsFullFor begin tail l → IsFullFor top top l
     full_wider (OfStore upkeeps.Flush) h = h
     full_wider (OfStore upkeeps.Checkpoint) h = omega (arith, h, le)
+    full_wider (OfStore upkeeps.Truncate) h = h
     full_wider (Other Blank) h = h
     full_wider (Other Wrong) h = h
     full_wider (Other (Of name Begin)) h = omega (arith, h, le)

@@ -1,45 +1,46 @@
 -- What holds after each run.
-use Rattle.std.proofs.Common.{◌≡◌, ℕ, ◌<◌, Bool, true, false, cond, not, List, [], ◌∷◌, ◌++◌, refl, sym, ap, ◌∙◌, subst}
+use Rattle.std.proofs.Common.{◌≡◌, ℕ, ◌<◌, Bool, true, false, cond, not, List, [], ◌∷◌, ◌++◌, ◌≤◌, refl, sym, ap, ◌∙◌, subst, arith}
 use Rattle.std.proofs.Common.{inl, inr}
-use Rattle.std.specs.Prelude.{◌||◌, ◌&&◌, ◌==◌}
+use Rattle.std.specs.Prelude.{◌||◌, ◌&&◌, ◌==◌, nat_le, take}
 use Rattle.std.specs.List.{filter}
-use Rattle.std.proofs.lemmas.Bool.{eqb-true, ne_eqb}
+use Rattle.std.proofs.lemmas.Bool.{eqb-true, ne_eqb, leb-true, le-leb}
 use Rattle.sg_serial.specs.Machine.{any_touch, HasFootprint, Entry, run, Replays, Held}
 use Rattle.sg_serial.specs.Locks.{Touch, Hold, reads, writes, held_of, hold_all}
-use Rattle.sg_serial.specs.Runs.{Live, State, is_live, is_own, aborted, committed, locked, saved, marking, start, LeavesOutEnds, KeepsEnded, AreAbove, AreRising, in_order, open_entries, live_state, committed_state, did, IsSerial, IsFree, Goes, GoesOn, undo_all}
+use Rattle.sg_serial.specs.Runs.{Live, State, is_live, is_own, aborted, committed, locked, saved, back, rolled_back, remarking, Mark, start, LeavesOutEnds, KeepsEnded, AreAbove, AreRising, in_order, open_entries, live_state, committed_state, did, IsSerial, IsFree, Goes, GoesOn, undo_all}
 use Rattle.sg_serial.specs.Runs.Goes.{refused, begins, only_locks, does, saves, goes_back, commits, aborts}
 use Rattle.sg_serial.specs.Runs.GoesOn.{no_line, and_line}
 use Rattle.sg_serial.proofs.Commute.{true_or_false, or_right}
 use Rattle.sg_serial.proofs.Leaving.{run-append, left_out, leaving_out, parted_run}
 use Rattle.sg_serial.proofs.Lists.{filter_both, filter_same, leaves_ends, order_filter, in_order_last}
 use Rattle.sg_serial.proofs.Holding.{reads_merge, writes_merge, any-hold_all}
-use Rattle.sg_serial.proofs.Kept.{same_live, begin_keeps, lock_keeps, did_keeps, commit_keeps, abort_keeps, back_keeps, Replays_of_Held, same_bool, and_true, both_true, not_both, not_true}
+use Rattle.sg_serial.proofs.Kept.{same_live, begin_keeps, lock_keeps, did_keeps, commit_keeps, abort_keeps, back_keeps, Replays_of_Held, same_bool, and_true, both_true, not_both, not_true, later}
 
-mark_number : (b : Bool) (l : Live) (time : ℕ) → (cond b (record l { marks = l.marks ++ time ∷ [] }) l).transaction ≡ l.transaction
-mark_number true l time = refl
-mark_number false l time = refl
+mark_number : (b : Bool) (f : List Mark → List Mark) (l : Live) → (cond b (record l { marks = f l.marks }) l).transaction ≡ l.transaction
+mark_number true f l = refl
+mark_number false f l = refl
 
-live-marking : (t time : ℕ) (ls : List Live) (u : ℕ) → is_live (marking t time ls) u ≡ is_live ls u
-live-marking t time [] u = refl
-live-marking t time (l ∷ ls) u = ap (λ k. (k == u) || is_live (marking t time ls) u) (mark_number (l.transaction == t) l time) ∙ ap (λ b. (l.transaction == u) || b) (live-marking t time ls u)
+pub live-remarking : (t : ℕ) (f : List Mark → List Mark) (ls : List Live) (u : ℕ) → is_live (remarking t f ls) u ≡ is_live ls u
+live-remarking t f [] u = refl
+live-remarking t f (l ∷ ls) u = ap (λ k. (k == u) || is_live (remarking t f ls) u) (mark_number (l.transaction == t) f l) ∙ ap (λ b. (l.transaction == u) || b) (live-remarking t f ls u)
 
-above-marking : (n t time : ℕ) (ls : List Live) → AreAbove n ls → AreAbove n (marking t time ls)
-above-marking n t time [] h = tt
-above-marking n t time (l ∷ ls) h = (subst (λ (k : ℕ). n < k) (sym (mark_number (l.transaction == t) l time)) h.0, above-marking n t time ls h.1)
+above-remarking : (n t : ℕ) (f : List Mark → List Mark) (ls : List Live) → AreAbove n ls → AreAbove n (remarking t f ls)
+above-remarking n t f [] h = tt
+above-remarking n t f (l ∷ ls) h = (subst (λ (k : ℕ). n < k) (sym (mark_number (l.transaction == t) f l)) h.0, above-remarking n t f ls h.1)
 
-rising-marking : (t time : ℕ) (ls : List Live) → AreRising ls → AreRising (marking t time ls)
-rising-marking t time [] h = tt
-rising-marking t time (l ∷ ls) h = (subst (λ (k : ℕ). AreAbove k (marking t time ls)) (sym (mark_number (l.transaction == t) l time)) (above-marking l.transaction t time ls h.0), rising-marking t time ls h.1)
+rising-remarking : (t : ℕ) (f : List Mark → List Mark) (ls : List Live) → AreRising ls → AreRising (remarking t f ls)
+rising-remarking t f [] h = tt
+rising-remarking t f (l ∷ ls) h = (subst (λ (k : ℕ). AreAbove k (remarking t f ls)) (sym (mark_number (l.transaction == t) f l)) (above-remarking l.transaction t f ls h.0), rising-remarking t f ls h.1)
 
 module _ {S Op Out Cell Resource : Type 0} (Value : Cell → Type 0) (step : S → Op → Out × S) (cell : S → (c : Cell) → Value c) (touches : S → Op → List (Touch Resource)) (covers : Resource → Cell → Bool) (same : Resource → Resource → Bool) (same_is : (a b : Resource) → same a b ≡ true → a ≡ b) (law : HasFootprint Value step cell touches (reads covers) (writes covers)) where
   abbrev Serial : State S Op Out Resource → Type 0
   Serial x = IsSerial step touches covers x
 
-  save_keeps : (x : State S Op Out Resource) (t : ℕ) → Serial x → Serial (saved x t)
-  save_keeps x t k =
-      let ls : List Live = marking t x.clock x.live in
-      let alive : (u : ℕ) → is_live ls u ≡ is_live x.live u = λ u. live-marking t x.clock x.live u in
-      let opens : open_entries (saved x t) ≡ open_entries x = filter_same (λ e. is_live ls e.transaction) (λ e. is_live x.live e.transaction) x.history (λ e i. alive e.transaction) in
+  -- other marks of a transaction are no matter
+  remarks_keep : (x : State S Op Out Resource) (t : ℕ) (f : List Mark → List Mark) → Serial x → Serial (record x { live = remarking t f x.live })
+  remarks_keep x t f k =
+      let ls : List Live = remarking t f x.live in
+      let alive : (u : ℕ) → is_live ls u ≡ is_live x.live u = λ u. live-remarking t f x.live u in
+      let opens : open_entries (record x { live = remarking t f x.live }) ≡ open_entries x = filter_same (λ e. is_live ls e.transaction) (λ e. is_live x.live e.transaction) x.history (λ e i. alive e.transaction) in
       record {
         replays = k.replays;
         held = subst (λ (es : List (Entry Op Out)). Held step touches (reads covers) (writes covers) (held_of x.held) (committed_state step x) es) (sym opens) k.held;
@@ -49,8 +50,16 @@ module _ {S Op Out Cell Resource : Type 0} (Value : Cell → Type 0) (step : S �
         below = k.below;
         numbers = λ u y. k.numbers u (sym (alive u) ∙ y);
         holders = λ u n. k.holders u (sym (alive u) ∙ n);
-        rising = rising-marking t x.clock x.live k.rising;
+        rising = rising-remarking t f x.live k.rising;
       }
+
+  -- a live transaction sets a mark
+  pub save_keeps : (x : State S Op Out Resource) (t number : ℕ) → Serial x → Serial (saved x t number)
+  save_keeps x t number k = remarks_keep x t (λ ms. ms ++ (record { number = number; time = x.clock }) ∷ []) k
+
+  -- and goes back to one
+  pub roll_keeps : (x : State S Op Out Resource) (t time n : ℕ) → is_live x.live t ≡ true → Serial x → Serial (rolled_back x t time n)
+  roll_keeps x t time n there k = remarks_keep (back x t time) t (λ ms. take n ms) (back_keeps Value step cell touches covers same same_is law x t time there k)
 
   pub does_keeps : (x : State S Op Out Resource) (t : ℕ) (op : Op) → is_live x.live t ≡ true → IsFree covers x.held t (touches (live_state step x) op) → Serial x → Serial (did step (locked same x t (touches (live_state step x) op)) t op)
   does_keeps x t op there free k =
@@ -69,8 +78,8 @@ module _ {S Op Out Cell Resource : Type 0} (Value : Cell → Type 0) (step : S �
   line_keeps {x = x} (begins t name above) k = begin_keeps Value step cell touches covers same same_is law x t name above k
   line_keeps {x = x} (only_locks t op there free) k = lock_keeps Value step cell touches covers same same_is law x t (touches (live_state step x) op) there free k
   line_keeps {x = x} (does t op there free) k = does_keeps x t op there free k
-  line_keeps {x = x} (saves t there) k = save_keeps x t k
-  line_keeps {x = x} (goes_back t time there) k = back_keeps Value step cell touches covers same same_is law x t time there k
+  line_keeps {x = x} (saves t number there) k = save_keeps x t number k
+  line_keeps {x = x} (goes_back t time n there) k = roll_keeps x t time n there k
   line_keeps {x = x} (commits t there) k = commit_keeps Value step cell touches covers same same_is law x t there k
   line_keeps {x = x} (aborts t there) k = abort_keeps Value step cell touches covers same same_is law x t there k
 
@@ -118,6 +127,14 @@ module _ {S Op Out Cell Resource : Type 0} (Value : Cell → Type 0) (step : S �
   aborted_objects x t there k =
       k.whole (λ e. not (is_own t e)) (λ e f q l y. ap (λ (u : ℕ). not (u == t)) q ∙ y)
       (λ e i n. ap not (ne_eqb e.transaction t (λ q. not_both (is_live x.live t) there (ap (λ (u : ℕ). is_live x.live u) (sym q) ∙ n))))
+
+  -- after a transaction went back to a time they are these with the open entries but for its own from that time on
+  pub rolled_objects : (x : State S Op Out Resource) (t time n : ℕ) → is_live x.live t ≡ true → Serial x
+      → live_state step (rolled_back x t time n) ≡ run step (committed_state step x) (filter (λ e. not (is_own t e && nat_le time e.time)) (open_entries x))
+  rolled_objects x t time n there k =
+      k.whole (λ e. not (is_own t e && nat_le time e.time))
+      (λ e f q l y. later (is_own t e) (nat_le time e.time) (λ a b. not_both (is_own t f && nat_le time f.time) (both_true (is_own t f) (nat_le time f.time) (ap (λ (u : ℕ). u == t) (sym q) ∙ a) (le-leb time f.time (let h : time ≤ e.time = leb-true time e.time b in omega arith))) (not_true (is_own t f && nat_le time f.time) y)))
+      (λ e i m. ap (λ b. not (b && nat_le time e.time)) (ne_eqb e.transaction t (λ q. not_both (is_live x.live t) there (ap (λ (u : ℕ). is_live x.live u) (sym q) ∙ m))))
 
   -- a commit puts the transaction's entries after the committed ones
   pub committed_objects : (x : State S Op Out Resource) (t : ℕ) → is_live x.live t ≡ true → Serial x → committed_state step (committed x t) ≡ run step (committed_state step x) (filter (is_own t) (open_entries x))

@@ -1,14 +1,19 @@
 -- The state of a run of transactions, and what each kind of line makes of it.
-use Rattle.std.specs.Prelude.{◌≡◌, ℕ, ◌+◌, ◌<◌, ◌≤◌, Bool, true, false, cond, not, ◌||◌, ◌&&◌, ◌==◌, nat_le, List, [], ◌∷◌, ◌++◌, map, length, Option}
+use Rattle.std.specs.Prelude.{◌≡◌, ℕ, ◌+◌, ◌-◌, ◌<◌, ◌≤◌, Bool, true, false, cond, not, ◌||◌, ◌&&◌, ◌==◌, nat_le, List, [], ◌∷◌, ◌++◌, map, length, take, Option, Some, None, slice_get, if◌then◌else◌}
 use Rattle.std.specs.List.{filter, flat_map, find}
 use Rattle.sg_serial.specs.Machine.{Among, Entry, run, Replays, Held, AreCompatible, IsClearOf}
 use Rattle.sg_serial.specs.Locks.{Touch, Hold, reads, writes, held_of, released, hold_all, any_conflict}
 
--- a live transaction: its name, its number and the times of its marks
+-- a mark of a transaction: the number that it was given, and the time when it was set
+pub record Mark : Type 0 where
+  pub number : ℕ
+  pub time : ℕ
+
+-- a live transaction: its name, its number and its marks, the first one first
 pub record Live : Type 0 where
   pub name : List ℕ
   pub transaction : ℕ
-  pub marks : List ℕ
+  pub marks : List Mark
 
 -- What has happened since a run began with its first objects: the entries in their order, the committed transactions in
 -- theirs and how many of these were answered, the live ones in the order of begin, what they hold, numbers above those of all transactions and entries so far
@@ -128,12 +133,30 @@ module _ {S Op Out Cell Resource : Type 0} (step : S → Op → Out × S) (touch
     pub holders : (t : ℕ) → is_live x.live t ≡ false → held_of x.held t ≡ []
     pub rising : AreRising x.live
 
--- the live transactions, of which one has one more mark
-abbrev pub marking : ℕ → ℕ → List Live → List Live
-marking t time ls = map (λ l. cond (l.transaction == t) (record l { marks = l.marks ++ time ∷ [] }) l) ls
+-- the marks of a live transaction
+abbrev pub marks_in : Option Live → List Mark
+marks_in None = []
+marks_in (Some l) = l.marks
 
-abbrev pub saved : {S Op Out Resource : Type 0} → State S Op Out Resource → ℕ → State S Op Out Resource
-saved x t = record x { live = marking t x.clock x.live }
+abbrev pub marks_of : List Live → ℕ → List Mark
+marks_of ls t = marks_in (find (λ l. l.transaction == t) ls)
+
+-- the mark with a number in their order, of which the first is 1
+abbrev pub nth_mark : {A : Type 0} → ℕ → List A → Option A
+nth_mark number ms = if number == 0 then None else slice_get ms (number - 1)
+
+-- the live transactions, of which one has other marks
+abbrev pub remarking : ℕ → (List Mark → List Mark) → List Live → List Live
+remarking t f ls = map (λ l. cond (l.transaction == t) (record l { marks = f l.marks }) l) ls
+
+-- a transaction has set a mark, which was given this number
+abbrev pub saved : {S Op Out Resource : Type 0} → State S Op Out Resource → (t number : ℕ) → State S Op Out Resource
+saved x t number = record x { live = remarking t (λ ms. ms ++ (record { number = number; time = x.clock }) ∷ []) x.live }
+
+-- A transaction has gone back to a mark that it set at this time: what it did behind that is left out. Of its marks it has the first
+-- so many, and all that it held
+abbrev pub rolled_back : {S Op Out Resource : Type 0} → State S Op Out Resource → (t time n : ℕ) → State S Op Out Resource
+rolled_back x t time n = record (back x t time) { live = remarking t (λ ms. take n ms) x.live }
 
 -- a run that begins with this
 abbrev pub start : {S Op Out Resource : Type 0} → S → State S Op Out Resource
@@ -154,8 +177,8 @@ module _ {S Op Out Cell Resource : Type 0} (step : S → Op → Out × S) (touch
     begins : {x : State S Op Out Resource} (t : ℕ) (name : List ℕ) → x.next ≤ t → Goes x (began x t name)
     only_locks : {x : State S Op Out Resource} (t : ℕ) (op : Op) → is_live x.live t ≡ true → IsFree covers x.held t (touches (live_state step x) op) → Goes x (locked same x t (touches (live_state step x) op))
     does : {x : State S Op Out Resource} (t : ℕ) (op : Op) → is_live x.live t ≡ true → IsFree covers x.held t (touches (live_state step x) op) → Goes x (did step (locked same x t (touches (live_state step x) op)) t op)
-    saves : {x : State S Op Out Resource} (t : ℕ) → is_live x.live t ≡ true → Goes x (saved x t)
-    goes_back : {x : State S Op Out Resource} (t time : ℕ) → is_live x.live t ≡ true → Goes x (back x t time)
+    saves : {x : State S Op Out Resource} (t number : ℕ) → is_live x.live t ≡ true → Goes x (saved x t number)
+    goes_back : {x : State S Op Out Resource} (t time n : ℕ) → is_live x.live t ≡ true → Goes x (rolled_back x t time n)
     commits : {x : State S Op Out Resource} (t : ℕ) → is_live x.live t ≡ true → Goes x (committed x t)
     aborts : {x : State S Op Out Resource} (t : ℕ) → is_live x.live t ≡ true → Goes x (aborted x t)
 

@@ -15,7 +15,7 @@ use Rattle.sg_store.specs.declared.engine.Engine.{Ghosts}
 use Rattle.sg_store.specs.Engine.{View}
 use Rattle.sg_store.specs.Store as stores
 use Rattle.sg_store.proofs.Holding as holding
-use Rattle.sg_session.specs.KeptUp.{IsKeptUp}
+use Rattle.sg_session.specs.KeptUp.{IsKeptUp, IfTruncates}
 use Rattle.sg_session.specs.Lines.{Line, line_by, line_of}
 use Rattle.sg_session.specs.Lines.Line.{Other}
 use Rattle.sg_session.specs.Shows.{Core}
@@ -50,3 +50,7 @@ module _ (t : Operations) (g : Ground) (lawful : IsLawful t g) (v : View g) (x :
             let is = holding.reads_so t g lawful w h.after m.store.live k in
             ap g.objects (some_one o (holding.reading t g lawful w h.after m.store.live k) (sym reads ∙ is.reading)) ∙ holding.objects_so t g lawful w h.after m.store.live k);
       }
+
+-- and nothing of a truncation, which it doesn't ask for
+pub other_cuts : (P : Type 0) (line : Asked) (l : Line) → Other line ≡ l → IfTruncates l P
+other_cuts P line l is = subst (λ (m : Line). IfTruncates m P) is tt

@@ -103,18 +103,25 @@ module _ {basis : Sizes → Ground} (old new : Shown basis) where
     pub abort_refused : (name : List ℕ) (u : ℕ) (why : Refused) → EndsFor u old new k m (Err why) → CausedBy k.stopped m.stopped (Other (Of name Abort)) (trouble_of why)
     abort_refused name u why h = end_refused (Other (Of name Abort)) (λ at_end. at_end) refl u why h
 
+    -- a line that flushes, or cuts the log
+    rests_refused : (line : Line) (why : Refused) → FlushesFor old new k m (Err why) → CausedBy k.stopped m.stopped line (trouble_of why)
+    rests_refused line refusals.NoTxn h = absurd h
+    rests_refused line refusals.TooManyLive h = absurd h
+    rests_refused line (refusals.Busy holder) h = absurd h
+    rests_refused line refusals.LocksFull h = absurd h
+    rests_refused line (refusals.Model reason) h = absurd h
+    rests_refused line (refusals.NoSpace free reserved need) h = absurd h
+    rests_refused line (refusals.NoBands free need) h = absurd h
+    rests_refused line refusals.LogEnd h = absurd h
+    rests_refused line refusals.Memory h = absurd h
+    rests_refused line refusals.DiskFault h = broken line (record k { held = m.held; stopped = Some stops.Disk }) h.1.0 refl h.1.1
+    rests_refused line refusals.Stopped h = plain line k refl h.1
+
     pub flush_refused : (why : Refused) → FlushesFor old new k m (Err why) → CausedBy k.stopped m.stopped (OfStore upkeeps.Flush) (trouble_of why)
-    flush_refused refusals.NoTxn h = absurd h
-    flush_refused refusals.TooManyLive h = absurd h
-    flush_refused (refusals.Busy holder) h = absurd h
-    flush_refused refusals.LocksFull h = absurd h
-    flush_refused (refusals.Model reason) h = absurd h
-    flush_refused (refusals.NoSpace free reserved need) h = absurd h
-    flush_refused (refusals.NoBands free need) h = absurd h
-    flush_refused refusals.LogEnd h = absurd h
-    flush_refused refusals.Memory h = absurd h
-    flush_refused refusals.DiskFault h = broken (OfStore upkeeps.Flush) (record k { held = m.held; stopped = Some stops.Disk }) h.1.0 refl h.1.1
-    flush_refused refusals.Stopped h = plain (OfStore upkeeps.Flush) k refl h.1
+    flush_refused why h = rests_refused (OfStore upkeeps.Flush) why h
+
+    pub truncate_refused : (why : Refused) → FlushesFor old new k m (Err why) → CausedBy k.stopped m.stopped (OfStore upkeeps.Truncate) (trouble_of why)
+    truncate_refused why h = rests_refused (OfStore upkeeps.Truncate) why h
 
     pub checkpoint_refused : (why : Refused) → ChecksFor old new k m (Err why) → CausedBy k.stopped m.stopped (OfStore upkeeps.Checkpoint) (trouble_of why)
     checkpoint_refused refusals.NoTxn h = absurd h
@@ -129,7 +136,7 @@ module _ {basis : Sizes → Ground} (old new : Shown basis) where
     checkpoint_refused refusals.DiskFault h = broken (OfStore upkeeps.Checkpoint) (record k { held = m.held; stopped = Some stops.Disk }) h.1.0 refl h.1.1
     checkpoint_refused refusals.Stopped h = plain (OfStore upkeeps.Checkpoint) k refl h.1
 
-    -- a flush and a checkpoint that fail leave a store that has stopped
+    -- a flush, a truncation and a checkpoint that fail leave a store that has stopped
     pub flush_stops : (why : Refused) → FlushesFor old new k m (Err why) → m.stopped ≡ None → ⊥
     flush_stops refusals.NoTxn h going = absurd h
     flush_stops refusals.TooManyLive h going = absurd h

@@ -101,6 +101,7 @@ checkpoint_keeps tail before now x y (Err Disk) h = same x y (stop stops.Disk x)
 pub upkeep_keeps : (a : Around) (upkeep : Upkeep) (x y : Run) (r : Result (Unit {0}) Refusal) → KeepsUp a upkeep x r y → AddsNone x y
 upkeep_keeps a upkeeps.Flush x y r h = flush_keeps a.before a.now x y r h
 upkeep_keeps a upkeeps.Checkpoint x y r h = checkpoint_keeps a.begin a.before a.now x y r h
+upkeep_keeps a upkeeps.Truncate x y r h = flush_keeps a.before a.now x y r h
 
 pub does_keep : (t : Operations) (begin tail before now u : ℕ) (op : Op) (x y : Run) (r : Result Reply Refusal) → Does t begin tail before now u op x r y → AddsNone x y
 does_keep t begin tail before now u op x y (Ok reply) h = same x y (did t x u op) refl refl refl h.4

@@ -116,6 +116,9 @@ module _ (t : Operations) (g : Ground) (v : View g) (x : Run) where
     upkeep_stopped upkeeps.Checkpoint e =
         let some = some_of x.stopped (ap is_some (sym shows.store.stopped) ∙ e) in
         same (OfStore upkeeps.Checkpoint) Stopped (Err HasStopped, refl, (some, refl)) (λ r. (Err HasStopped, refl, record { line = (some, refl); stock = refl }))
+    upkeep_stopped upkeeps.Truncate e =
+        let some = some_of x.stopped (ap is_some (sym shows.store.stopped) ∙ e) in
+        same (OfStore upkeeps.Truncate) Stopped (Err HasStopped, refl, (some, refl)) (λ r. (Err HasStopped, refl, record { line = (some, refl); stock = refl }))
 
     module _ (running : k.store.stopped ≡ None) where
       pub going : x.stopped ≡ None
@@ -254,6 +257,21 @@ module _ (t : Operations) (g : Ground) (v : View g) (x : Run) where
           (λ y b. (Err (said_refusal why), words_for answer why says (named.flush_named v.faults w.faults x.so_far.live x why y b), b))
           (λ y b. names ∙ sym (named.flush_live v.faults w.faults x y (Err why) b))
           (alone w m (OfStore upkeeps.Flush) answer (calls.Flushes v.faults w.faults x (Err why)) left
+          (λ by_stock r shown y b. (Err (said_refusal why), words_for answer why says (named.flush_named v.faults w.faults x.so_far.live x why y b), record { line = b; stock = refl })))
+
+      -- A TRUNCATION, which goes as a flush
+      pub truncate_done : (w : View g) (m : stores.Core) → calls.Goes t g v x (calls.Flushes v.faults w.faults x (Ok tt)) w m → (m.stopped ≡ None → LeavesStock t g v w) → Goes t g v x (OfStore upkeeps.Truncate) (Said Done) w (record { store = m; names = k.names })
+      truncate_done w m h left =
+          from_store w m k.names (OfStore upkeeps.Truncate) (Said Done) (calls.Flushes v.faults w.faults x (Ok tt)) h (λ y b. (Ok tt, refl, b)) (λ y b. names ∙ sym (named.flush_live v.faults w.faults x y (Ok tt) b))
+          (alone w m (OfStore upkeeps.Truncate) (Said Done) (calls.Flushes v.faults w.faults x (Ok tt)) left (λ by_stock r shown y b. (Ok tt, refl, record { line = b; stock = refl })))
+
+      pub truncate_refused : (w : View g) (m : stores.Core) (answer : Answer) (why : Refused) → (IsNamed k.names why → answer ≡ answer_to k.names (said_refusal why))
+          → calls.Goes t g v x (calls.Flushes v.faults w.faults x (Err why)) w m → (m.stopped ≡ None → LeavesStock t g v w) → Goes t g v x (OfStore upkeeps.Truncate) answer w (record { store = m; names = k.names })
+      truncate_refused w m answer why says h left =
+          from_store w m k.names (OfStore upkeeps.Truncate) answer (calls.Flushes v.faults w.faults x (Err why)) h
+          (λ y b. (Err (said_refusal why), words_for answer why says (named.flush_named v.faults w.faults x.so_far.live x why y b), b))
+          (λ y b. names ∙ sym (named.flush_live v.faults w.faults x y (Err why) b))
+          (alone w m (OfStore upkeeps.Truncate) answer (calls.Flushes v.faults w.faults x (Err why)) left
           (λ by_stock r shown y b. (Err (said_refusal why), words_for answer why says (named.flush_named v.faults w.faults x.so_far.live x why y b), record { line = b; stock = refl })))
 
       -- CHECKPOINT

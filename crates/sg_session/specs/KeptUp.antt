@@ -22,4 +22,12 @@ module _ {E : Type 0} (ghosts : Ghosts E) where
   abbrev pub IsKeptUp : Line → (e f : E) → Type 0
   IsKeptUp (OfStore upkeeps.Flush) e f = IsHome e f
   IsKeptUp (OfStore upkeeps.Checkpoint) e f = IsCheckpointed e f
+  IsKeptUp (OfStore upkeeps.Truncate) e f = ⊤
   IsKeptUp (Other line) e f = ⊤
+
+-- behind a line that asks for a truncation this holds
+abbrev pub IfTruncates : Line → Type 0 → Type 0
+IfTruncates (OfStore upkeeps.Flush) P = ⊤
+IfTruncates (OfStore upkeeps.Checkpoint) P = ⊤
+IfTruncates (OfStore upkeeps.Truncate) P = P
+IfTruncates (Other line) P = ⊤

@@ -18,7 +18,7 @@ use Rattle.sg_run.specs.Numbers.{Refusal, Begins, Does, Commits, Aborts, Flushes
 use Rattle.sg_run.specs.Named.{answer_done, answer_reply}
 use Rattle.sg_run.specs.Stocked.{Around}
 
--- what a line asks for: a flush or a checkpoint of the store as a whole, or what a line of one transaction asks for
+-- what a line asks for: a flush, a checkpoint or a truncation of the store as a whole, or what a line of one transaction asks for
 pub data Line : Type 0 where
   OfStore : (upkeep : Upkeep) → Line
   Other : (line : Asked) → Line
@@ -61,10 +61,11 @@ abbrev pub UnlessStopped : Operations → Around → List ℕ → Option Stop �
 UnlessStopped t a name (Some why) x request answer y = (answer ≡ Stopped) × (y ≡ x)
 UnlessStopped t a name None x request answer y = RequestBy t a name x request answer y
 
--- the store as a whole is flushed, or makes a checkpoint
+-- the store as a whole is flushed, makes a checkpoint, or has its log's front cut off
 abbrev pub KeepsUp : Around → Upkeep → Run → Result (Unit {0}) Refusal → Run → Type 0
 KeepsUp a upkeeps.Flush x r y = Flushes a.before a.now x r y
 KeepsUp a upkeeps.Checkpoint x r y = Checkpoints a.begin a.before a.now x r y
+KeepsUp a upkeeps.Truncate x r y = Flushes a.before a.now x r y
 
 abbrev pub UpkeepBy : Around → Upkeep → Run → Answer → Run → Type 0
 UpkeepBy a upkeep x answer y = (r : Result (Unit {0}) Refusal) × (answer ≡ answer_done x.so_far.live r) × KeepsUp a upkeep x r y

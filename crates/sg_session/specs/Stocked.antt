@@ -16,7 +16,7 @@ use Rattle.sg_store.specs.Room.{ShowsStock}
 use Rattle.sg_session.specs.Lines.{Line, KeepsUp}
 use Rattle.sg_session.specs.Lines.Line.{OfStore, Other}
 
--- the store as a whole is flushed, or makes a checkpoint, which leaves the stock
+-- the store as a whole is flushed, makes a checkpoint, or has its log's front cut off, which leaves the stock
 pub record KeepsUpStocked (a : Around) (upkeep : Upkeep) (x : Stocked) (r : Result (Unit {0}) Refusal) (y : Stocked) : Type 0 where
   pub line : KeepsUp a upkeep x.run r y.run
   pub stock : y.stock ≡ x.stock

@@ -16,7 +16,7 @@ use crate::names::Names;
 use sg_base::{Failed, Name, OutOfMemory, Sink};
 use sg_model::{Op, Reply, Stop};
 use sg_ops::Ops;
-use sg_store::{Lists, Objects, Refused, Store};
+use sg_store::{Lists, Objects, Refused, Store, Truncates};
 use sg_words::{Answer, Asked, Request, Upkeep, parse_request, parse_upkeep};
 use std::alloc::Global;
 
@@ -204,25 +204,6 @@ impl<E: Objects> Session<E> {
         }
     }
 
-    // What is asked of the store as a whole is done.
-    fn keep_up(&mut self, upkeep: Upkeep) -> Answer
-        requires running { self.old.store.stop ≡ None }
-        requires serves { IsServed self.old }
-        ensures caused { (into : List ℕ) → Caused (E.view self.old.store.engine) (E.view self.new.store.engine) self.old.store.stop self.new.store.stop (OfStore upkeep) (shown_answer into result) }
-        ensures kept_up { HasKeptUp (OfStore upkeep) self.old self.new }
-        ensures told { (E.view self.new.store.engine).Told → (E.view self.old.store.engine).Told }
-        ensures heeds { Heeds self.old.store.stop self.new.store.stop (E.view self.old.store.engine) (E.view self.new.store.engine) }
-        ensures means { Keeps (E.view self.old.store.engine) (E.view self.new.store.engine) }
-        ensures goes { (into : List ℕ) → AsMeant (E.view self.old.store.engine) (E.view self.new.store.engine) (λ t g v w.
-            (x : Run) → IsLawful t g → Shows t g v (session_core self.old) x
-            → Goes t g v x (OfStore upkeep) (shown_answer into result) w (session_core self.new)) }
-    {
-        match upkeep {
-            Upkeep::Flush => self.flush(),
-            Upkeep::Checkpoint => self.checkpoint(),
-        }
-    }
-
     // The transaction with this name does an operation, whose bytes are the first of `into`.
     fn perform(&mut self, ops: &Ops, name: Name, op: &Op<'_>, into: &mut [u8]) -> Answer
         requires running { self.old.store.stop ≡ None }
@@ -321,7 +302,68 @@ impl<E: Objects> Session<E> {
     }
 }
 
-impl<E: Lists> Session<E> {
+impl<E: Truncates> Session<E> {
+    ghost use Rattle.std.specs.Prelude.{option_map, slice_get};
+    ghost use Rattle.sg_checkpoints.specs.Cutting.{IsCut};
+    ghost use Rattle.sg_core.specs.Live.{number_of};
+    ghost use Rattle.sg_run.specs.Run.{Run};
+    ghost use Rattle.sg_store.specs.Ground.{IsLawful};
+    ghost use Rattle.sg_store.specs.Engine.{Keeps, AsMeant};
+    ghost use Rattle.sg_store.specs.Heeds.{Heeds};
+    ghost use Rattle.sg_session.specs.Lines.Line.{OfStore};
+    ghost use Rattle.sg_session.specs.Shows.{Shows};
+    ghost use Rattle.sg_session.specs.Causes.{Caused};
+    ghost use Rattle.sg_session.specs.Goes.{Goes};
+    ghost use Rattle.sg_session.specs.KeptUp.{IfTruncates};
+    ghost use Rattle.sg_session.specs.Seen.{session_core, IsServed, HasKeptUp};
+
+    // What isn't wanted any more is cut off of the log.
+    fn truncate(&mut self) -> Answer
+        requires running { self.old.store.stop ≡ None }
+        requires serves { IsServed self.old }
+        ensures caused { (into : List ℕ) → Caused (E.view self.old.store.engine) (E.view self.new.store.engine) self.old.store.stop self.new.store.stop (OfStore Upkeep.Truncate) (shown_answer into result) }
+        ensures cuts { self.new.store.stop ≡ None → (E.view self.old.store.engine).Told → IsCut (E.unwritten self.old.store.engine) (option_map number_of (slice_get self.old.store.txns 0)) (E.last_checkpoint self.old.store.engine) (E.is_spent self.old.store.engine)
+            (E.view self.old.store.engine).start (E.view self.new.store.engine).start (E.first_frame_end self.new.store.engine) }
+        ensures told { (E.view self.new.store.engine).Told → (E.view self.old.store.engine).Told }
+        ensures heeds { Heeds self.old.store.stop self.new.store.stop (E.view self.old.store.engine) (E.view self.new.store.engine) }
+        ensures means { Keeps (E.view self.old.store.engine) (E.view self.new.store.engine) }
+        ensures goes { (into : List ℕ) → AsMeant (E.view self.old.store.engine) (E.view self.new.store.engine) (λ t g v w.
+            (x : Run) → IsLawful t g → Shows t g v (session_core self.old) x
+            → Goes t g v x (OfStore Upkeep.Truncate) (shown_answer into result) w (session_core self.new)) }
+    {
+        match self.store.truncate() {
+            Ok(()) => Answer::Said(Reply::Done),
+            Err(why) => self.names.answer_to(why),
+        }
+    }
+
+    // What is asked of the store as a whole is done.
+    fn keep_up(&mut self, upkeep: Upkeep) -> Answer
+        requires running { self.old.store.stop ≡ None }
+        requires serves { IsServed self.old }
+        ensures caused { (into : List ℕ) → Caused (E.view self.old.store.engine) (E.view self.new.store.engine) self.old.store.stop self.new.store.stop (OfStore upkeep) (shown_answer into result) }
+        ensures kept_up { HasKeptUp (OfStore upkeep) self.old self.new }
+        ensures cuts { self.new.store.stop ≡ None → IfTruncates (OfStore upkeep) ((E.view self.old.store.engine).Told → IsCut (E.unwritten self.old.store.engine) (option_map number_of (slice_get self.old.store.txns 0)) (E.last_checkpoint self.old.store.engine) (E.is_spent self.old.store.engine)
+            (E.view self.old.store.engine).start (E.view self.new.store.engine).start (E.first_frame_end self.new.store.engine)) }
+        ensures told { (E.view self.new.store.engine).Told → (E.view self.old.store.engine).Told }
+        ensures heeds { Heeds self.old.store.stop self.new.store.stop (E.view self.old.store.engine) (E.view self.new.store.engine) }
+        ensures means { Keeps (E.view self.old.store.engine) (E.view self.new.store.engine) }
+        ensures goes { (into : List ℕ) → AsMeant (E.view self.old.store.engine) (E.view self.new.store.engine) (λ t g v w.
+            (x : Run) → IsLawful t g → Shows t g v (session_core self.old) x
+            → Goes t g v x (OfStore upkeep) (shown_answer into result) w (session_core self.new)) }
+    {
+        match upkeep {
+            Upkeep::Flush => self.flush(),
+            Upkeep::Checkpoint => self.checkpoint(),
+            Upkeep::Truncate => self.truncate(),
+        }
+    }
+}
+
+impl<E: Lists + Truncates> Session<E> {
+    ghost use Rattle.std.specs.Prelude.{option_map, slice_get};
+    ghost use Rattle.sg_checkpoints.specs.Cutting.{IsCut};
+    ghost use Rattle.sg_core.specs.Live.{number_of};
     ghost use Rattle.sg_run.specs.Run.{Run};
     ghost use Rattle.sg_store.specs.Ground.{IsLawful};
     ghost use Rattle.sg_store.specs.Engine.{Keeps, KeepsBy, AsMeant, AsMeantBy};
@@ -331,6 +373,7 @@ impl<E: Lists> Session<E> {
     ghost use Rattle.sg_session.specs.Shows.{Shows};
     ghost use Rattle.sg_session.specs.Causes.{Caused};
     ghost use Rattle.sg_session.specs.Goes.{Goes, Answers, when_stopped};
+    ghost use Rattle.sg_session.specs.KeptUp.{IfTruncates};
     ghost use Rattle.sg_session.specs.OneLine.{OneLine};
     ghost use Rattle.sg_session.specs.Seen.{session_core, Serves, IsServed, HasAnswered, HasKeptUp};
 
@@ -392,6 +435,8 @@ impl<E: Lists> Session<E> {
         ensures still { IsSome self.old.store.stop → shown into.new result ≡ when_stopped (line_of text.now) }
         ensures caused { Caused (E.view self.old.store.engine) (E.view self.new.store.engine) self.old.store.stop self.new.store.stop (line_of text.now) (shown into.new result) }
         ensures kept_up { HasKeptUp (line_of text.now) self.old self.new }
+        ensures cuts { self.new.store.stop ≡ None → IfTruncates (line_of text.now) ((E.view self.old.store.engine).Told → IsCut (E.unwritten self.old.store.engine) (option_map number_of (slice_get self.old.store.txns 0)) (E.last_checkpoint self.old.store.engine) (E.is_spent self.old.store.engine)
+            (E.view self.old.store.engine).start (E.view self.new.store.engine).start (E.first_frame_end self.new.store.engine)) }
         ensures told { (E.view self.new.store.engine).Told → (E.view self.old.store.engine).Told }
         ensures heeds { Heeds self.old.store.stop self.new.store.stop (E.view self.old.store.engine) (E.view self.new.store.engine) }
         ensures means { KeepsBy (table_of record_meaning range_meaning ops.now) (E.view self.old.store.engine) (E.view self.new.store.engine) }
@@ -450,6 +495,8 @@ impl<E: Lists> Session<E> {
         // the answer has its cause, and the session has stopped for what it says
         ensures caused { Caused (E.view self.old.store.engine) (E.view self.new.store.engine) self.old.store.stop self.new.store.stop (line_of text.now) (shown into.new result) }
         ensures kept_up { HasKeptUp (line_of text.now) self.old self.new }
+        ensures cuts { self.new.store.stop ≡ None → IfTruncates (line_of text.now) ((E.view self.old.store.engine).Told → IsCut (E.unwritten self.old.store.engine) (option_map number_of (slice_get self.old.store.txns 0)) (E.last_checkpoint self.old.store.engine) (E.is_spent self.old.store.engine)
+            (E.view self.old.store.engine).start (E.view self.new.store.engine).start (E.first_frame_end self.new.store.engine)) }
         ensures heeds { Heeds self.old.store.stop self.new.store.stop (E.view self.old.store.engine) (E.view self.new.store.engine) }
         ensures told { (E.view self.new.store.engine).Told → (E.view self.old.store.engine).Told }
         ensures means { KeepsBy (table_of record_meaning range_meaning ops.now) (E.view self.old.store.engine) (E.view self.new.store.engine) }
@@ -498,8 +545,10 @@ impl<E: Lists> Session<E> {
             self.old.store.stop ≡ None → AsMeantBy t (E.view self.old.store.engine) (E.view self.new.store.engine) (λ g v w.
             (x : Run) → IsLawful t g → Shows t g v (session_core self.old) x
             → OneLine t g v x (line_of text.now) w self.new.store.stop) }
-        // a flush and a checkpoint that don't stop the session are made
+        // a flush, a checkpoint and a truncation that don't stop the session are made
         ensures kept_up { HasKeptUp (line_of text.now) self.old self.new }
+        ensures cuts { self.new.store.stop ≡ None → IfTruncates (line_of text.now) ((E.view self.old.store.engine).Told → IsCut (E.unwritten self.old.store.engine) (option_map number_of (slice_get self.old.store.txns 0)) (E.last_checkpoint self.old.store.engine) (E.is_spent self.old.store.engine)
+            (E.view self.old.store.engine).start (E.view self.new.store.engine).start (E.first_frame_end self.new.store.engine)) }
         ensures quiet { OnOk result (K.faults out.new ≡ K.faults out.old) }
         ensures failed { OnErr result (HasRisen (K.faults out.old) (K.faults out.new)) }
     {

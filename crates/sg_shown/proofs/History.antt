@@ -68,10 +68,10 @@ pub image_is : (recovers : Recovering) (t : Table) (z : Sizes) (v : View (basis 
 image_is recovers t z v log c size h = record {
   front = h.front;
   is_front = front_is h.is_front;
-  left = h.front;
-  says = refl;
+  left = h.left;
+  says = h.says;
   recovers = record {
-    image = subst (λ (x : State). recovers t c h.front x) (sym (made_is recovers t z v.first h.front)) h.recovers;
+    image = subst (λ (x : State). recovers t c h.left x) (sym (made_is recovers t z v.first h.front)) h.recovers;
     size = made_sized recovers t z v.first h.front ∙ size;
   };
 }

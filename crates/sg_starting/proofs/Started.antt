@@ -33,10 +33,10 @@ module _ (t : Operations) (g : Ground) (lawful : IsLawful t g) (v : View g) (dow
   logs : Logs t g v.first v.durable v.log (start m)
   logs =
       let f = found_logs in
-      record { sound = f.sound; next = f.next; history = f.history; same = f.same; keeps = forced (setting t g) (start m).so_far.first v.first (Rattle.sg_run.specs.Run.committed_objects t (start m)) (held_of (start m).so_far.held) down v.durable v.log f.history k.found f.keeps }
+      record { sound = f.sound; next = f.next; history = f.history; same = f.same; points = f.points; keeps = forced (setting t g) (start m).so_far.first v.first (Rattle.sg_run.specs.Run.committed_objects t (start m)) (held_of (start m).so_far.held) down v.durable v.log f.history k.found f.keeps }
 
   pub kept : IsKept t g v [] (start m)
-  kept = record { live = refl; answered = refl; engine = k.engine; idle = k.idle; logs = logs; free = k.free; reserved = tt; marked = λ o e. tt; buried = λ o e d f is. absurd (lawful.none_buried o (let few : g.buried o ≤ 0 = clear o e in omega (arith, few)) d f is) }
+  kept = record { live = refl; answered = refl; engine = k.engine; idle = k.idle; logs = logs; free = k.free; reserved = tt; marked = λ o e. tt; marks = refl; buried = λ o e d f is. absurd (lawful.none_buried o (let few : g.buried o ≤ 0 = clear o e in omega (arith, few)) d f is) }
 
   pub shows : Shows t g v (record { live = []; held = []; stopped = None }) (start m)
   shows = record {

@@ -26,6 +26,7 @@ use Rattle.sg_store.specs.Stops.{refused_at, stop_at}
 use Rattle.sg_store.proofs.Aborting.{abort_logs}
 use Rattle.sg_store.proofs.Ending.{IsNear}
 use Rattle.sg_store.proofs.Marking.{marks_without}
+use Rattle.sg_store.proofs.Points.{same_marks_without}
 use Rattle.sg_store.proofs.Owning.{grown, owned_ended, next_after}
 use Rattle.sg_store.proofs.Live.{same_live, same_without, others_without}
 use Rattle.sg_store.proofs.Calls.{moved, call_stands, goes_same, goes_on, goes_down, some_stop, no_stop}
@@ -82,6 +83,7 @@ module _ (t : Operations) (g : Ground) (lawful : IsLawful t g) (v : View g) (k :
                 buried = λ b r. grown t g (aborted x u).so_far.live (aborted x u).so_far.held (next_lsn w1.log) (next_lsn w.log) b (next_after t g w1 w (record { lsn = l; is = End u p }) d) (owned_ended t g x.so_far.live x.so_far.held u (next_lsn w1.log) b
                     (undone.undoing.buried b (subst (λ (ls : List (Numbered g.C g.N)). g.reading (made (setting t g) w1.first ls) ≡ Some b) d.log (subst (λ q. g.reading (made (setting t g) q w.log) ≡ Some b) d.goes_on.first r))));
                 marked = λ b r. marks_without g k.live u b (undone.undoing.marked b (subst (λ (ls : List (Numbered g.C g.N)). g.reading (made (setting t g) w1.first ls) ≡ Some b) d.log (subst (λ q. g.reading (made (setting t g) q w.log) ≡ Some b) d.goes_on.first r)));
+                marks = same_marks_without k.live x.so_far.live u undone.undoing.marks;
               };
               held = ap (λ hs. released u hs) runs.held;
             })) (none, live, refl) end_stays

@@ -57,6 +57,7 @@ module _ (t : Operations) (g : Ground) (lawful : IsLawful t g) (v : View g) (txn
         reserved = room.is_kept.reserved;
         buried = room.is_kept.buried;
         marked = room.is_kept.marked;
+        marks = room.is_kept.marks;
       };
       reading = room.reading;
       reads = record { reading = room.reads.reading; free = room.reads.free };

@@ -1,5 +1,5 @@
 -- What an action does to a log that keeps a run.
-use Rattle.std.proofs.Common.{◌≡◌, ℕ, ◌<◌, ◌≤◌, true, List, [], ◌∷◌, ◌++◌, Option, Some, None, refl, sym, ap, ◌∙◌, subst, arith}
+use Rattle.std.proofs.Common.{◌≡◌, ℕ, ◌+◌, ◌<◌, ◌≤◌, true, List, [], ◌∷◌, ◌++◌, Option, Some, None, refl, sym, ap, ◌∙◌, subst, arith}
 use Rattle.std.specs.Option.{option_map}
 use Rattle.sg_ops.specs.Table.{Table as Operations}
 use Rattle.sg_serial.specs.Locks.{Touch, held_of, hold_all, first_holder}
@@ -27,6 +27,7 @@ use Rattle.sg_recovery.proofs.Basic.{some_one}
 use Rattle.sg_join.specs.Join.{Keeps, IsOf}
 use Rattle.sg_join.proofs.Keeping as keeping
 use Rattle.sg_join.proofs.Histories.{did_same}
+use Rattle.sg_join.proofs.Points.{did_points}
 use Rattle.sg_store.specs.Ground.{Ground, IsLawful, setting}
 use Rattle.sg_store.specs.Engine.{Action, AreChanges}
 use Rattle.sg_store.specs.Store.{Logs}
@@ -125,6 +126,8 @@ module _ (t : Operations) (g : Ground) (lawful : IsLawful t g) (pages : g.X) (du
         next = k.next;
         history = record { transaction = u; at = next_lsn log; verb = v } ∷ k.history;
         same = did_same g.op x.so_far (did t x u op).so_far (tally log).live k.history (record { transaction = u; op = op; out = (step t (live_objects t x) op).0; time = x.so_far.clock }) v (next_lsn log) k.same refl refl is;
+        points = did_points (next_lsn log) (next_lsn log) x.so_far.clock k.history x.so_far.history x.so_far.live (record { transaction = u; at = next_lsn log; verb = v })
+            (record { transaction = u; op = op; out = (step t (live_objects t x) op).0; time = x.so_far.clock }) refl (omega arith) (omega arith) refl k.points;
         keeps = keeping.looks (setting t g) lawful.laws x.so_far.first pages (committed_objects t x) (held_of (with_locks t x u op).so_far.held) durable log k.history u v (holds_more (committed_objects t x) log k.history x u op k.keeps)
             (k.same.lives u ∙ live) (λ b e. subst (λ z. g.After t v z z) (some_one o b (sym k.keeps.running.reads ∙ e)) after) (granted_now x u op (tally log).live v (touched_now log x k op v o is after) none);
       }
@@ -153,6 +156,8 @@ module _ (t : Operations) (g : Ground) (lawful : IsLawful t g) (pages : g.X) (du
         history = record { transaction = u; at = l; verb = v } ∷ k.history;
         same = did_same g.op x.so_far (did t x u op).so_far (tally (ds ++ log)).live k.history (record { transaction = u; op = op; out = (step t (live_objects t x) op).0; time = x.so_far.clock }) v l
             (subst (λ ls. IsOf g.op ls k.history x.so_far) (sym lives) k.same) refl refl is;
+        points = did_points (next_lsn log) (l + 1) x.so_far.clock k.history x.so_far.history x.so_far.live (record { transaction = u; at = l; verb = v })
+            (record { transaction = u; op = op; out = (step t (live_objects t x) op).0; time = x.so_far.clock }) refl (omega (arith, up, le)) (omega arith) refl k.points;
         keeps = keeping.goes (setting t g) lawful.laws x.so_far.first pages (committed_objects t x) (held_of (with_locks t x u op).so_far.held) durable (ds ++ log) k.history (record { transaction = u; at = l; verb = v } ∷ k.history)
             (record { lsn = l; is = TopEnd u p w note }) before le
             (does u p w note v (g.touched v) goes_on alone (lt_of (chained.1) le) chained.0 (granted_now x u op (tally (ds ++ log)).live v same none)

@@ -37,6 +37,7 @@ use Rattle.sg_store.proofs.Live.{reserved_begun, each_bare}
 use Rattle.sg_store.proofs.Images.{image_stands}
 use Rattle.sg_store.proofs.Lines.{begin_logs}
 use Rattle.sg_store.proofs.Marking.{marks_begun}
+use Rattle.sg_store.proofs.Points.{same_marks_begun}
 use Rattle.sg_store.proofs.Owning.{owned_begun, next_after}
 
 take_all : {A : Type 0} (xs : List A) → take (length xs) xs ≡ xs
@@ -61,6 +62,7 @@ module _ (t : Operations) (g : Ground) where
         next = k.next;
         history = k.history;
         same = k.same;
+        points = k.points;
         keeps = forced (setting t g) x.so_far.first pages (committed_objects t x) (Rattle.sg_serial.specs.Locks.held_of x.so_far.held) durable more log k.history grows k.keeps;
       }))
 
@@ -126,6 +128,7 @@ module _ (t : Operations) (g : Ground) where
     buried = λ o e. owned_begun t g x.so_far.live x.so_far.held n name (next_lsn v.log) (next_lsn w.log) o low (next_after t g v w (record { lsn = n; is = Begin n 0 }) a)
         (k.buried o (subst (λ (l : List (Numbered g.C g.N)). g.reading (made (setting t g) v.first l) ≡ Some o) a.log (subst (λ p. g.reading (made (setting t g) p w.log) ≡ Some o) a.goes_on.first e)));
     marked = λ o e. let q = (subst (λ (l : List (Numbered g.C g.N)). g.reading (made (setting t g) v.first l) ≡ Some o) a.log (subst (λ p. g.reading (made (setting t g) p w.log) ≡ Some o) a.goes_on.first e)) in marks_begun g txns n o (λ f is. absurd (let below : n < next_lsn v.log = (k.buried o q n f is).0 in omega (arith, below, low))) (k.marked o q);
+    marks = same_marks_begun txns x.so_far.live n name k.marks;
   }
 
   pub some_stop : (k : Core) (x : Run) → is_some k.stopped ≡ true → k.stopped ≡ x.stopped → IsSome x.stopped

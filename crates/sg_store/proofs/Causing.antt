@@ -9,10 +9,12 @@ use Rattle.sg_model.specs.Touches.{Resource, same_resource, conflict}
 use Rattle.sg_locks.specs.declared.table.LockAnswer.{LockAnswer}
 use Rattle.sg_locks.specs.declared.table.LockAnswer.TheVariants.{Granted, Busy, LocksFull}
 use Rattle.sg_locks.specs.Answers.{lock_answer, held_after, locks_after}
-use Rattle.sg_core.specs.Live.{Txn, is_live}
+use Rattle.sg_serial.specs.Runs.{nth_mark}
+use Rattle.sg_core.specs.Live.{Txn, is_live, marks_of}
 use Rattle.sg_space.specs.declared.space.SpaceFault.{SpaceFault}
 use Rattle.sg_space.specs.declared.space.SpaceFault.TheVariants as spaces
 use Rattle.sg_run.specs.Numbers.{NEW_WORK_END}
+use Rattle.sg_store.specs.declared.fault.MarkRefused.TheVariants as marks
 use Rattle.sg_store.specs.declared.fault.Refused.{Refused}
 use Rattle.sg_store.specs.declared.fault.Refused.TheVariants as refusals
 use Rattle.sg_store.specs.Ground.{Ground}
@@ -20,7 +22,7 @@ use Rattle.sg_store.specs.Engine.{Sizes, Shown, IsDiskFault}
 use Rattle.sg_store.specs.Refusals.{said_lock}
 use Rattle.sg_store.specs.Stops.{refused_at, stop_at}
 use Rattle.sg_store.specs.Store.{Core}
-use Rattle.sg_store.specs.Causes.{AsksNothing, BreaksFor, FlushesFor, ChecksFor, ClosesFor, EndsFor, OnlyHolds, HoldsFor, LacksPages, RoomsFor, FailsFor, ActsFor, RefusesFor, DoesFor, UnlistedFor}
+use Rattle.sg_store.specs.Causes.{AsksNothing, BreaksFor, FlushesFor, ChecksFor, ClosesFor, EndsFor, RollsFor, OnlyHolds, HoldsFor, LacksPages, RoomsFor, FailsFor, ActsFor, RefusesFor, DoesFor, UnlistedFor}
 use Rattle.sg_store.proofs.Ending.{IsNear}
 use Rattle.sg_store.proofs.Heeding.{risen_on}
 use Rattle.sg_store.proofs.Holding.{busy_holder}
@@ -56,6 +58,13 @@ module _ {basis : Sizes → Ground} (old new : Shown basis) (k m : Core) where
   pub ends_failed : (u : ℕ) → is_live k.live u ≡ true → (f : SpaceFault) (r : Refused) → r ≡ refused_at f → m ≡ record k { stopped = Some (stop_at f) } → k.stopped ≡ None → (IsDiskFault f → HasRisen old.faults new.faults) → IsNear new.tail f → EndsFor u old new k m (Err r)
   ends_failed u live spaces.Disk r e is none risen near = subst (λ z. EndsFor u old new k m (Err z)) (sym e) (none, live, breaks is (risen tt))
   ends_failed u live spaces.LogEnd r e is none risen near = subst (λ z. EndsFor u old new k m (Err z)) (sym e) (none, live, near, is)
+
+  pub rolls_failed : (u mark : ℕ) → is_live k.live u ≡ true → IsSome (nth_mark mark (marks_of k.live u)) → (f : SpaceFault) (r : Refused) → r ≡ refused_at f → (txns : List Txn) → m ≡ record k { live = txns; stopped = Some (stop_at f) } → k.stopped ≡ None
+      → (IsDiskFault f → HasRisen old.faults new.faults) → IsNear new.tail f → RollsFor u mark old new k m (Err (marks.Store r))
+  rolls_failed u mark live some spaces.Disk r e txns is none risen near = subst (λ z. RollsFor u mark old new k m (Err (marks.Store z))) (sym e)
+      (none, live, some, risen tt, is ∙ ap (λ ls. record k { live = ls; stopped = Some stops.Disk }) (sym (ap (λ (c : Core). c.live) is)))
+  rolls_failed u mark live some spaces.LogEnd r e txns is none risen near = subst (λ z. RollsFor u mark old new k m (Err (marks.Store z))) (sym e)
+      (none, live, some, near, is ∙ ap (λ ls. record k { live = ls; stopped = Some stops.LogEnd }) (sym (ap (λ (c : Core). c.live) is)))
 
   pub holds_failed : (u : ℕ) (f : SpaceFault) (r : Refused) → r ≡ refused_at f → m ≡ record k { stopped = Some (stop_at f) } → (IsDiskFault f → HasRisen old.faults new.faults) → IsDiskFault f → HoldsFor u old new k m (Err r)
   holds_failed u spaces.Disk r e is risen disk = subst (λ z. HoldsFor u old new k m (Err z)) (sym e) (breaks is (risen tt))

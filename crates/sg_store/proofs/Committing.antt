@@ -38,6 +38,7 @@ use Rattle.sg_store.proofs.Ending.{IsNear}
 use Rattle.sg_store.proofs.Images.{image_either}
 use Rattle.sg_store.proofs.Lines.{commit_logs}
 use Rattle.sg_store.proofs.Live.{same_live, same_without, reserved_without}
+use Rattle.sg_store.proofs.Points.{same_marks_without}
 use Rattle.sg_store.proofs.Owning.{grown, next_after}
 use Rattle.sg_store.proofs.Calls.{moved, stands_all, goes_same, some_stop, no_stop}
 
@@ -116,6 +117,7 @@ module _ (t : Operations) (g : Ground) (lawful : IsLawful t g) (v : View g) (k :
           reserved = subst (λ (ls : List (Numbered g.C g.N)). AreReserved (setting t g) (without u k.live) (tally ls).notes) (sym did.log) (reserved_without (setting t g) k.live (tally v.log).notes u runs.is_kept.reserved);
           buried = λ o r. grown t g x.so_far.live x.so_far.held (next_lsn v.log) (next_lsn w.log) o (next_after t g v w (record { lsn = l; is = Commit u p }) did) (runs.is_kept.buried o (before_it o r));
           marked = λ o r. runs.is_kept.marked o (before_it o r);
+          marks = same_marks_without k.live x.so_far.live u runs.is_kept.marks;
         }
           where
             before_it : (o : g.O) → g.reading (pages_of t g w) ≡ Some o → g.reading (pages_of t g v) ≡ Some o

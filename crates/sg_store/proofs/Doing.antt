@@ -111,6 +111,7 @@ module _ (t : Operations) (g : Ground) (lawful : IsLawful t g) (v : View g) (k :
             reserved = (subst (λ (ks : List Txn). IsKept t g w ks x) (ap (λ (c : Core). c.live) held.2) kept).reserved;
             buried = λ o r. owned_locked t g x.so_far.live x.so_far.held u (touches (live_objects t x) op) (next_lsn w.log) o (kept.buried o r);
             marked = (subst (λ (ks : List Txn). IsKept t g w ks x) (ap (λ (c : Core). c.live) held.2) kept).marked;
+            marks = (subst (λ (ks : List Txn). IsKept t g w ks x) (ap (λ (c : Core). c.live) held.2) kept).marks;
           };
           held = refl;
         })
@@ -133,6 +134,7 @@ module _ (t : Operations) (g : Ground) (lawful : IsLawful t g) (v : View g) (k :
                 reserved = kept2.reserved;
                 buried = λ o r. owned_locked t g x.so_far.live x.so_far.held u (touches (live_objects t x) op) (next_lsn w.log) o (kept2.buried o r);
                 marked = kept2.marked;
+                marks = kept2.marks;
               };
               held = refl;
             })

@@ -1,15 +1,16 @@
 -- Who holds something is live.
 use Rattle.std.proofs.Common.{◌≡◌, ℕ, ◌<◌, ◌≤◌, Bool, true, false, not, cond, List, [], ◌∷◌, ◌++◌, Option, Some, None, refl, sym, ap, ◌∙◌, subst, arith}
-use Rattle.std.specs.Prelude.{◌==◌, ◌||◌, ◌&&◌, nat_lt, min}
+use Rattle.std.specs.Prelude.{◌==◌, ◌||◌, ◌&&◌, nat_lt, min, All, slice_index_or}
 use Rattle.std.proofs.lemmas.Bool.{eq-eqb, eqb-true}
 use Rattle.std.proofs.lemmas.Bool.Decides.{nat_tests}
 use Rattle.std.specs.List.{list_any, list_all}
+use Rattle.std.proofs.lemmas.List.Elements.{All-map}
 use Rattle.sg_serial.specs.Locks.{Touch, Hold, hold_one, hold_all, released, first_holder, lesser}
 use Rattle.sg_model.specs.Touches.{Resource, same_resource, conflict}
 use Rattle.sg_locks.specs.declared.table.LockAnswer.{LockAnswer}
 use Rattle.sg_locks.specs.declared.table.LockAnswer.TheVariants.{Granted, Busy, LocksFull}
 use Rattle.sg_locks.specs.Answers.{lock_answer, held_after, locks_after}
-use Rattle.sg_core.specs.Live.{Txn, begun, is_of, is_live, one_more, reserving, without}
+use Rattle.sg_core.specs.Live.{Txn, begun, is_of, is_live, one_more, reserving, without, remarking, with_marks}
 use Rattle.sg_model.specs.Verb.{Op}
 use Rattle.sg_store.specs.Drops.{marked_by}
 use Rattle.sg_store.proofs.Marking.{live_marked}
@@ -61,6 +62,30 @@ live_reserving v (k ∷ ks) u h = go (is_of v k) h (live_reserving v ks u)
 
 pub reserving_holders : (v : ℕ) (ks : List Txn) (hs : List (Hold Resource)) → all_hold (is_live ks) hs ≡ true → all_hold (is_live (reserving v ks)) hs ≡ true
 reserving_holders v ks hs h = more (is_live ks) (is_live (reserving v ks)) hs (live_reserving v ks) h
+
+-- one has other marks
+live_remarking : (v : ℕ) (f : List ℕ → List ℕ) (ks : List Txn) (u : ℕ) → is_live ks u ≡ true → is_live (remarking v f ks) u ≡ true
+live_remarking v f [] u h = absurd (cc)
+live_remarking v f (k ∷ ks) u h = go (is_of v k) h (live_remarking v f ks u)
+  where
+    either : (a : Bool) → (a || is_live ks u) ≡ true → (is_live ks u ≡ true → is_live (remarking v f ks) u ≡ true) → (a || is_live (remarking v f ks) u) ≡ true
+    either true e r = refl
+    either false e r = r e
+
+    go : (b : Bool) → (is_of u k || is_live ks u) ≡ true → (is_live ks u ≡ true → is_live (remarking v f ks) u ≡ true) → (is_of u (cond b (with_marks f k) k) || is_live (remarking v f ks) u) ≡ true
+    go true e r = either (is_of u k) e r
+    go false e r = either (is_of u k) e r
+
+pub remarking_holders : (v : ℕ) (f : List ℕ → List ℕ) (ks : List Txn) (hs : List (Hold Resource)) → all_hold (is_live ks) hs ≡ true → all_hold (is_live (remarking v f ks)) hs ≡ true
+remarking_holders v f ks hs h = more (is_live ks) (is_live (remarking v f ks)) hs (live_remarking v f ks) h
+
+-- and its number is below what it was
+pub below_remarking : (v low high : ℕ) (f : List ℕ → List ℕ) (ks : List Txn) → low ≤ high → All (λ k. k.transaction < low) ks → All (λ k. k.transaction < high) (remarking v f ks)
+below_remarking v low high f ks le h = All-map (λ (k : Txn). k.transaction < high) (λ (k : Txn). cond (is_of v k) (with_marks f k) k) ks (λ i d lt. one (is_of v (slice_index_or ks i d)) (slice_index_or ks i d) (h i d lt))
+  where
+    one : (b : Bool) (k : Txn) → k.transaction < low → (cond b (with_marks f k) k).transaction < high
+    one true k z = omega (arith, z, le)
+    one false k z = omega (arith, z, le)
 
 -- one is marked
 pub marked_holders : (op : Op) (v : ℕ) (ks : List Txn) (hs : List (Hold Resource)) → all_hold (is_live ks) hs ≡ true → all_hold (is_live (marked_by op v ks)) hs ≡ true

@@ -98,6 +98,7 @@ module _ (t : Operations) (g : Ground) (lawful : IsLawful t g) (v : View g) (x :
     buried = λ o e. subst (λ (l : List (Numbered g.C g.N)). AreOwned g x.so_far.live x.so_far.held (next_lsn l) o) (sym r.log)
         (kept.buried o (subst (λ (l : List (Numbered g.C g.N)). g.reading (made (setting t g) v.first l) ≡ Some o) r.log (subst (λ p. g.reading (made (setting t g) p w.log) ≡ Some o) r.goes_on.first e)));
     marked = λ o e. kept.marked o (subst (λ (l : List (Numbered g.C g.N)). g.reading (made (setting t g) v.first l) ≡ Some o) r.log (subst (λ p. g.reading (made (setting t g) p w.log) ≡ Some o) r.goes_on.first e));
+    marks = kept.marks;
   }
 
   module _ (w : View g) (k m : Core) (u : ℕ) (op : Op) (asked : List (Touch Resource)) (same : k.live ≡ txns) (held : k.held ≡ x.so_far.held) (r : Rested t g v w) (are : asked ≡ touches (g.objects reading) op) (after : m ≡ record k { held = locks_after u asked k.held }) where

@@ -25,6 +25,7 @@ use Rattle.sg_recovery.proofs.Basic.{some_one, each_more, number_is, same_number
 use Rattle.sg_join.specs.Join.{Grows, Keeps, IsOf}
 use Rattle.sg_join.proofs.Keeping as keeping
 use Rattle.sg_join.proofs.Histories.{lives_same}
+use Rattle.sg_join.proofs.Points.{wider}
 use Rattle.sg_store.specs.Ground.{Ground, IsLawful, setting, are_written}
 use Rattle.sg_store.specs.Engine.{View, Action, Changes, Rests, Rested, Appends, Appended, IsEngine, IsActing, pages_of, is_going}
 use Rattle.sg_store.proofs.Counting.{changes_going}
@@ -136,6 +137,7 @@ module _ (t : Operations) (g : Ground) (lawful : IsLawful t g) (v : View g) (txn
     reserved = subst (λ (l : List (Numbered g.C g.N)). AreReserved (setting t g) (without u txns) (tally l).notes) (sym r.log) k.reserved;
     buried = λ b e. subst (λ (l : List (Numbered g.C g.N)). AreOwned g x.so_far.live x.so_far.held (next_lsn l) b) (sym r.log) (k.buried b (before b e));
     marked = λ b e. k.marked b (before b e);
+    marks = k.marks;
   }
     where
       before : (b : g.O) → g.reading (pages_of t g w) ≡ Some b → g.reading (pages_of t g v) ≡ Some b
@@ -211,6 +213,7 @@ module _ (t : Operations) (g : Ground) (lawful : IsLawful t g) (v : View g) (txn
             next = omega (arith, k.logs.next, up, le);
             history = k.logs.history;
             same = subst (λ ls. IsOf g.op ls k.logs.history (committed x u).so_far) (sym lives) k.logs.same;
+            points = wider (next_lsn v.log) (l + 1) x.so_far.clock k.logs.history x.so_far.history (committed x u).so_far.live (omega (arith, up, le)) k.logs.points;
             keeps = keeping.goes (setting t g) lawful.laws x.so_far.first v.first (committed_objects t (committed x u)) (held_of (released u x.so_far.held)) w.durable (c.made ++ v.log) k.logs.history k.logs.history end
                 (keeps_over w.durable f.changed.goes_on.durable) le
                 (frees 0 p i note f.place system alone (λ b e. subst (λ z. DoesFree (setting t g) f.place (made (setting t g) v.first (c.made ++ v.log)) z) (some_one o b (sym settled_o ∙ e)) freed_is)
@@ -243,6 +246,7 @@ module _ (t : Operations) (g : Ground) (lawful : IsLawful t g) (v : View g) (txn
         buried = λ b e. subst (λ z. AreOwned g x.so_far.live x.so_far.held (next_lsn w2.log) z) (same b e)
             (grown t g x.so_far.live x.so_far.held (next_lsn v.log) (next_lsn w2.log) f.now up (fewer t g x.so_far.live x.so_far.held (next_lsn v.log) o f.now f.left (k.buried o reads_o)));
         marked = λ b e. subst (λ z. AreMarked g txns z) (same b e) (marks_fewer g txns o f.now f.left (k.marked o reads_o));
+        marks = k.marks;
       }
         where
           noted : Top g.C g.N
@@ -300,6 +304,7 @@ module _ (t : Operations) (g : Ground) (lawful : IsLawful t g) (v : View g) (txn
     reserved = m.reserved;
     buried = λ b e. owned_ended t g x.so_far.live x.so_far.held u (next_lsn w.log) b (m.buried b e);
     marked = λ b e. marks_without g txns u b (m.marked b e);
+    marks = m.marks;
   }
 
   -- it ends
@@ -316,6 +321,7 @@ module _ (t : Operations) (g : Ground) (lawful : IsLawful t g) (v : View g) (txn
           next = omega (arith, k.logs.next, le);
           history = k.logs.history;
           same = lives_same g.op (committed x u).so_far (committed x u).so_far (tally v.log).live (log.without u (tally v.log).live) k.logs.history k.logs.same refl (λ n. in_without u n (tally v.log).live ∙ (still n ∙ k.logs.same.lives n));
+          points = wider (next_lsn v.log) (l + 1) x.so_far.clock k.logs.history x.so_far.history (committed x u).so_far.live (omega (arith, le)) k.logs.points;
           keeps = keeping.goes (setting t g) lawful.laws x.so_far.first v.first (committed_objects t (committed x u)) (held_of (released u x.so_far.held)) v.durable v.log k.logs.history k.logs.history (record { lsn = l; is = End u p }) k.logs.keeps le (ends_over u p over);
         }
       where
@@ -348,6 +354,7 @@ module _ (t : Operations) (g : Ground) (lawful : IsLawful t g) (v : View g) (txn
         buried = λ b e. grown t g (committed x u).so_far.live (committed x u).so_far.held (next_lsn v.log) (next_lsn w.log) b (next_after t g v w (record { lsn = l; is = End u p }) d)
             (owned_ended t g x.so_far.live x.so_far.held u (next_lsn v.log) b (k.buried b (before b e)));
         marked = λ b e. marks_without g txns u b (k.marked b (before b e));
+        marks = k.marks;
       }
 
       pub ended_none : HasNone t g v u → HasNone t g w u
@@ -395,6 +402,7 @@ acted_leaving t g v v1 txns x u a engine is k = subst (λ z. IsLeaving t g z txn
   reserved = k.reserved;
   buried = k.buried;
   marked = k.marked;
+  marks = k.marks;
 })
 
 pub action_is : (t : Operations) (g : Ground) (v w : View g) → w ≡ record v { action = Some (record { transaction = 0; pages = pages_of t g v }) } → w.action ≡ Some (record { transaction = 0; pages = pages_of t g w })

@@ -33,3 +33,8 @@ pub mod Taking
 pub mod Aborts
 pub mod Heeding
 pub mod Accounting
+pub mod Told
+pub mod Points
+pub mod Saving
+pub mod Rolling
+pub mod Returning

@@ -1,5 +1,5 @@
 -- What each line does to a log that keeps a run.
-use Rattle.std.proofs.Common.{◌≡◌, ℕ, ◌≤◌, Bool, true, false, not, cond, List, [], ◌∷◌, None, refl, sym, ap, ◌∙◌, arith}
+use Rattle.std.proofs.Common.{◌≡◌, ℕ, ◌+◌, ◌≤◌, Bool, true, false, not, cond, List, [], ◌∷◌, None, refl, sym, ap, ◌∙◌, arith}
 use Rattle.std.specs.Prelude.{◌==◌, ◌||◌, ◌&&◌}
 use Rattle.std.proofs.lemmas.Bool.{eq-eqb, eqb-true}
 use Rattle.sg_ops.specs.Table.{Table as Operations}
@@ -22,6 +22,7 @@ use Rattle.sg_recovery.specs.Claims.{Log, History}
 use Rattle.sg_recovery.proofs.Rolling.{reading_shows}
 use Rattle.sg_join.specs.Join.{IsOf}
 use Rattle.sg_join.proofs.Keeping as keeping
+use Rattle.sg_join.proofs.Points.{wider, begun_points, ended_points}
 use Rattle.sg_join.proofs.Histories.{kept_committed, objects_same, lives_same, same_state}
 use Rattle.sg_store.specs.Ground.{Ground, IsLawful, setting}
 use Rattle.sg_store.specs.Store.{Logs}
@@ -91,6 +92,8 @@ module _ (t : Operations) (g : Ground) (lawful : IsLawful t g) (pages : g.X) (du
     history = k.history;
     same = lives_same g.op x.so_far (began x l name).so_far (tally log).live (l ∷ (tally log).live) k.history k.same refl
         (λ u. ap (λ b. (l == u) || b) (k.same.lives u) ∙ (or_swap (l == u) (is_live x.so_far.live u) ∙ sym (live-append x.so_far.live (record { name = name; transaction = l; marks = [] } ∷ []) u)));
+    points = wider (next_lsn log) (l + 1) x.so_far.clock k.history x.so_far.history (began x l name).so_far.live (omega (arith, le))
+        (begun_points (next_lsn log) x.so_far.clock k.history x.so_far.history x.so_far.live name l k.points);
     keeps = keeping.goes (setting t g) lawful.laws x.so_far.first pages (committed_objects t x) (held_of x.so_far.held) durable log k.history k.history (record { lsn = l; is = Begin l 0 }) k.keeps le (begins 0);
   }
 
@@ -101,6 +104,7 @@ module _ (t : Operations) (g : Ground) (lawful : IsLawful t g) (pages : g.X) (du
     next = k.next;
     history = k.history;
     same = same_state g.op x.so_far (with_locks t x u op).so_far (tally log).live k.history k.same refl refl;
+    points = k.points;
     keeps = keeping.locks (setting t g) x.so_far.first pages (committed_objects t x) (held_of x.so_far.held) (held_of (hold_all same_resource u (touches (live_objects t x) op) x.so_far.held)) durable log k.history u k.keeps
         (locked t g x.so_far.held u (touches (live_objects t x) op));
   }
@@ -117,6 +121,8 @@ module _ (t : Operations) (g : Ground) (lawful : IsLawful t g) (pages : g.X) (du
         next = omega (arith, k.next);
         history = k.history;
         same = same;
+        points = wider (next_lsn log) (l + 1) x.so_far.clock k.history x.so_far.history (committed x u).so_far.live (omega (arith, le))
+            (ended_points (next_lsn log) x.so_far.clock k.history x.so_far.history x.so_far.live u k.points);
         keeps = keeping.releases (setting t g) x.so_far.first pages (committed_objects t (committed x u)) (held_of x.so_far.held) (held_of (released u x.so_far.held)) (record { lsn = l; is = Commit u p } ∷ log) (record { lsn = l; is = Commit u p } ∷ log) k.history u
             (keeping.commits (setting t g) x.so_far.first pages (committed_objects t x) (committed_objects t (committed x u)) (held_of x.so_far.held) durable log k.history l u p k.keeps le (kept (committed x u) (without u (tally log).live) k.history same sound))
             (record { none = none_of u (tally log).notes; others = λ v ne. others_hold x.so_far.held u v ne });

@@ -219,7 +219,7 @@ module _ (s : Setting) where
   wanted_one n ns = wanted_step n ns
 
 -- another transaction's notes, once some of one are gone
-other_up_to : {C N : Type 0} (ns : List (Top C N)) (u v after : ℕ) → (v ≡ u → ⊥) → notes_of v (notes_up_to u after ns) ≡ notes_of v ns
+pub other_up_to : {C N : Type 0} (ns : List (Top C N)) (u v after : ℕ) → (v ≡ u → ⊥) → notes_of v (notes_up_to u after ns) ≡ notes_of v ns
 other_up_to [] u v after ne = refl
 other_up_to {C} {N} (n ∷ ns) u v after ne = go (n.transaction == u) (n.transaction == v) (nat_lt after n.lsn) refl refl (other_up_to ns u v after ne)
   where

@@ -43,7 +43,7 @@ module _ (t : Operations) (g : Ground) (lawful : IsLawful t g) (v : View g) (k :
     pub runs : Runs t g v k x
     runs = s.runs none
 
-    stays : (Line : Run → Type 0) (w : View g) → Line x → Rests t g v w → Rested t g v w → Goes t g v x Line w k
+    pub stays : (Line : Run → Type 0) (w : View g) → Line x → Rests t g v w → Rested t g v w → Goes t g v x Line w k
     stays Line w line r did = goes_on t g v w k k x x Line s none (no_stop t g k.stopped e) (no_stop t g k.stopped e) none refl refl
         (record { is_kept = rested_kept t g lawful v x k.live runs.is_kept w did; held = runs.held }) line (call_stands t g v w v.log x runs.is_kept.logs r.moments)
 
@@ -67,7 +67,7 @@ module _ (t : Operations) (g : Ground) (lawful : IsLawful t g) (v : View g) (k :
 -- A flush behind a checkpoint: both together
 
 -- what was done stays, whatever the flush is answered
-flush_past : (before now : ℕ) (x y : Run) (r : Result (Unit {0}) Refused) → Flushes before now x r y → y.so_far ≡ x.so_far
+pub flush_past : (before now : ℕ) (x y : Run) (r : Result (Unit {0}) Refused) → Flushes before now x r y → y.so_far ≡ x.so_far
 flush_past before now x y (Ok done) h = ap (λ (z : Run). z.so_far) h.1
 flush_past before now x y (Err refusals.NoTxn) h = absurd h
 flush_past before now x y (Err refusals.TooManyLive) h = absurd h

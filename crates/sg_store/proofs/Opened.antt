@@ -36,6 +36,7 @@ module _ (t : Operations) (g : Ground) (pages : g.X) (m : Objects) where
         next = omega arith;
         history = [];
         same = record { same = refl; lives = λ u. ap (λ ls. is_in u ls) none };
+        points = record { entries = tt; marks = tt };
         keeps = record {
           running = subst (λ z. Running (setting t g) z (next_lsn (more ++ down)) (held_of []) (tally (more ++ down)) (made (setting t g) pages (more ++ down)) []) reads.2
               (fresh_runs (setting t g) pages (more ++ down) (held_of []) reads.0 formed idle none clear reads.1);

@@ -26,7 +26,8 @@ use Rattle.sg_store.specs.declared.fault.Needed.{Needed}
 use Rattle.sg_store.specs.Ground.{Ground, IsLawful, setting}
 use Rattle.sg_store.specs.Engine.{View, Action, Changes, Changed, Appends, Appended, pages_of, IsActing}
 use Rattle.sg_store.specs.Verbs.{LeftAlone, IsNotedBy}
-use Rattle.sg_store.specs.Store.{IsKept, Logs, AreReserved, AreOwned, AreMarked}
+use Rattle.sg_store.proofs.Points.{shown_reserving, shown_marked}
+use Rattle.sg_store.specs.Store.{shown_txn, IsKept, Logs, AreReserved, AreOwned, AreMarked}
 use Rattle.sg_run.specs.Numbers.{IsGranted}
 use Rattle.sg_store.specs.Calls.{Stays, HasRoom}
 use Rattle.sg_store.proofs.Images.{image_stands}
@@ -82,6 +83,7 @@ module _ (t : Operations) (g : Ground) (lawful : IsLawful t g) (v : View g) (txn
           buried = λ b e. owned_locked t g x.so_far.live x.so_far.held u (touches (live_objects t x) op) (next_lsn w.log) b (subst (λ (ls : List (Numbered g.C g.N)). AreOwned g x.so_far.live x.so_far.held (next_lsn ls) b) (sym l.log)
               (kept.buried b (subst (λ (ls : List (Numbered g.C g.N)). g.reading (made (setting t g) v.first ls) ≡ Some b) l.log (subst (λ q. g.reading (made (setting t g) q w.log) ≡ Some b) changed.goes_on.first e))));
           marked = λ b e. kept.marked b (subst (λ (ls : List (Numbered g.C g.N)). g.reading (made (setting t g) v.first ls) ≡ Some b) l.log (subst (λ q. g.reading (made (setting t g) q w.log) ≡ Some b) changed.goes_on.first e));
+          marks = kept.marks;
         }
 
     -- and may leave the stock
@@ -143,8 +145,8 @@ module _ (t : Operations) (g : Ground) (lawful : IsLawful t g) (v : View g) (txn
       ends_stay = call_stands t g w w2 (record { lsn = l; is = TopEnd u p i (g.note note) } ∷ w.log) (did t x u op) logs_now ends.moments
 
       module _ (did_end : Appended t g w w2 (record { lsn = l; is = TopEnd u p i (g.note note) })) where
-        done_with : (after : List Txn) → map (λ (k : Txn). k.transaction) after ≡ map (λ (k : Txn). k.transaction) txns → AreReserved (setting t g) after (top ∷ (tally v.log).notes) → AreMarked g after n.now → IsKept t g w2 after (did t x u op)
-        done_with after same reserved marks = record {
+        done_with : (after : List Txn) → map (λ (k : Txn). k.transaction) after ≡ map (λ (k : Txn). k.transaction) txns → AreReserved (setting t g) after (top ∷ (tally v.log).notes) → AreMarked g after n.now → map shown_txn after ≡ map shown_txn txns → IsKept t g w2 after (did t x u op)
+        done_with after same reserved marks given = record {
           live = same ∙ kept.live;
           answered = kept.answered;
           engine = did_end.goes_on.engine;
@@ -159,6 +161,7 @@ module _ (t : Operations) (g : Ground) (lawful : IsLawful t g) (v : View g) (txn
               ∙ subst (λ (ls : List (Numbered g.C g.N)). g.reading (made (setting t g) w.first ls) ≡ Some b) did_end.log (subst (λ q. g.reading (made (setting t g) q w2.log) ≡ Some b) did_end.goes_on.first e))) owned;
           marked = λ b e. subst (λ z. AreMarked g after z) (some_one n.now b (sym n.reads.reading
               ∙ subst (λ (ls : List (Numbered g.C g.N)). g.reading (made (setting t g) w.first ls) ≡ Some b) did_end.log (subst (λ q. g.reading (made (setting t g) q w2.log) ≡ Some b) did_end.goes_on.first e))) marks;
+          marks = given ∙ kept.marks;
         }
           where
             up : next_lsn v.log ≤ next_lsn w2.log
@@ -233,8 +236,10 @@ module _ (t : Operations) (g : Ground) (lawful : IsLawful t g) (v : View g) (txn
             (reserved_note (setting t g) (marked_by op u txns) (tally v.log).notes top (reserved_marked (setting t g) op u txns (tally v.log).notes kept.reserved)
             (let one : (g.needs t o op).reserve ≤ 1 = lawful.reserves_one o op in let is : needs.reserve ≡ (g.needs t o op).reserve = room.need.reserve in let w1 : wants_one (setting t g) top ≡ (g.needs t o op).reserve = wants_is in omega (arith, one, is, w1, some)))
             (marks_reserving g u (marked_by op u txns) n.now marks_now)
+            (shown_reserving u (marked_by op u txns) ∙ shown_marked op u txns)
 
         pub done_unreserved : needs.reserve ≡ 0 → IsKept t g w2 (marked_by op u txns) (did t x u op)
         done_unreserved none = done_with (marked_by op u txns) same_marked
             (reserved_none (setting t g) (marked_by op u txns) (tally v.log).notes top (reserved_marked (setting t g) op u txns (tally v.log).notes kept.reserved) (wants_is ∙ (sym room.need.reserve ∙ none)))
             marks_now
+            (shown_marked op u txns)

@@ -16,7 +16,7 @@ use Rattle.sg_model.specs.Step.{step}
 use Rattle.sg_model.specs.declared.op.Reply as code_reply
 use Rattle.sg_model.specs.SaidReplies.{said_reply}
 use Rattle.sg_recovery.specs.Log as log
-use Rattle.sg_run.specs.Run.{Run, Event, did, committed, aborted, live_objects, committed_objects}
+use Rattle.sg_run.specs.Run.{Run, Event, did, committed, aborted, rolled_back, live_objects, committed_objects}
 use Rattle.sg_run.proofs.Serial.{serial_run}
 use Rattle.sg_store.specs.Ground.{Ground, IsLawful}
 use Rattle.sg_store.specs.Engine.{View, Sizes, Shown, led, AskedBy}
@@ -24,9 +24,10 @@ use Rattle.sg_store.specs.declared.fault.Refused.{Refused}
 use Rattle.sg_store.specs.Stands.{StandsFor}
 use Rattle.sg_store.specs.Store.{Core, Shows}
 use Rattle.sg_run.specs.Numbers as calls
-use Rattle.sg_store.specs.Calls.{Goes, Begins, Does, Lists, Commits, Aborts}
-use Rattle.sg_store.specs.Rests.{HasObjects, HasDone, HasCommitted, HasAborted}
+use Rattle.sg_store.specs.Calls.{Goes, Begins, Does, Lists, Saves, RollsBack, Commits, Aborts}
+use Rattle.sg_store.specs.Rests.{HasObjects, HasDone, HasCommitted, HasGoneBack, HasAborted}
 use Rattle.sg_store.proofs.Images.{image_stands}
+use Rattle.sg_store.proofs.Points.{run_numbers_remarking}
 
 abbrev pub numbers : List Live → List ℕ
 numbers ls = map (λ l. l.transaction) ls
@@ -81,6 +82,14 @@ module _ (t : Operations) (g : Ground) where
         (ap (λ (z : Run). numbers z.so_far.live) eq ∙ (map-append (λ (l : Live). l.transaction) h.run.so_far.live (record { name = name; transaction = n.0; marks = [] } ∷ []) ∙ ap (λ ns. ns ++ n.0 ∷ []) h.live_are))
         (ap (λ (z : Run). live_objects t z) eq ∙ h.objects_are) (ap (λ (z : Run). committed_objects t z) eq ∙ h.durable_are)
 
+    -- a mark was set
+    pub saved_has : (tail before now u n : ℕ) → Goes t g v h.run (Saves tail before now u h.run (Ok n)) w m → HasObjects live objects durable m t g w
+    saved_has tail before now u n go =
+        let eq = go.goes.5.2 in
+        has_objects h.lawful w m go.after go.shows (ap (λ (z : Run). z.stopped) eq ∙ h.running) live objects durable
+        (ap (λ (z : Run). numbers z.so_far.live) eq ∙ (run_numbers_remarking u (λ ms. ms ++ (record { number = go.goes.5.0; time = h.run.so_far.clock }) ∷ []) h.run.so_far.live ∙ h.live_are))
+        (ap (λ (z : Run). live_objects t z) eq ∙ h.objects_are) (ap (λ (z : Run). committed_objects t z) eq ∙ h.durable_are)
+
     did_objects : (u : ℕ) (op : Op) → live_objects t (did t h.run u op) ≡ (step t (live_objects t h.run) op).1
     did_objects u op = run-append (step t) h.run.so_far.first h.run.so_far.history (record { transaction = u; op = op; out = (step t (live_objects t h.run) op).0; time = h.run.so_far.clock } ∷ [])
 
@@ -118,6 +127,17 @@ module _ (t : Operations) (g : Ground) where
           after = live_objects t (aborted h.run u);
           has = has_objects h.lawful w m go.after go.shows (ap (λ (z : Run). z.stopped) eq ∙ h.running) (log.without u live) (live_objects t (aborted h.run u)) durable
               (ap (λ (z : Run). numbers z.so_far.live) eq ∙ (numbers_without u h.run.so_far.live ∙ ap (λ ns. log.without u ns) h.live_are))
+              (ap (λ (z : Run). live_objects t z) eq) (ap (λ (z : Run). committed_objects t z) eq ∙ h.durable_are);
+        }
+
+    pub rolled_has : (tail before now u n : ℕ) → Goes t g v h.run (RollsBack tail before now u n h.run (Ok tt)) w m → HasGoneBack live durable m t g w
+    rolled_has tail before now u n go =
+        let mark = go.goes.2.0 in
+        let eq = go.goes.2.2 in
+        record {
+          after = live_objects t (rolled_back h.run u mark.time n);
+          has = has_objects h.lawful w m go.after go.shows (ap (λ (z : Run). z.stopped) eq ∙ h.running) live (live_objects t (rolled_back h.run u mark.time n)) durable
+              (ap (λ (z : Run). numbers z.so_far.live) eq ∙ (run_numbers_remarking u (λ ms. Rattle.std.proofs.Common.take n ms) h.run.so_far.live ∙ h.live_are))
               (ap (λ (z : Run). live_objects t z) eq) (ap (λ (z : Run). committed_objects t z) eq ∙ h.durable_are);
         }
 

@@ -10,8 +10,8 @@ use Rattle.sg_store.specs.Ground.{Ground, IsLawful}
 use Rattle.sg_store.specs.Engine.{View, Sizes, Shown, led, Asked, AskedBy, IsAtRest, HasPlace, IsAt, MayAct}
 use Rattle.sg_store.specs.Verbs.{CanLook}
 use Rattle.sg_store.specs.Store.{Core, Shows, IsLeaving, IsUndoing}
-use Rattle.sg_store.specs.Calls.{Goes, Since, IsUndoingSince, IsLeavingSince}
-use Rattle.sg_store.specs.Asks.{ShowsSome, IsRunning, IsFreeing, IsTakingBack}
+use Rattle.sg_store.specs.Calls.{Goes, Since, IsUndoingSince, IsLeavingSince, GivesSince, IsBackSince}
+use Rattle.sg_store.specs.Asks.{ShowsSome, IsRunning, IsFreeing, IsTakingBack, HasMark, IsGoingBack}
 use Rattle.sg_store.proofs.Calls.{no_stop}
 use Rattle.sg_store.proofs.Live.{same_live}
 use Rattle.sg_store.proofs.Counting.{few_live}
@@ -71,6 +71,19 @@ module _ {basis : Sizes → Ground} (t : Operations) (old now : Shown basis) (be
         record { lawful = h.lawful; run = h.run; leaving = subst (λ (k : Core). IsLeaving t (basis s.sizes) (led t s.sizes (s.from (i.told told)) now) k.live h.run u) (sym i.same) (d.leaving h.run h.lawful h.leaving) });
   }
 
+  pub back_since : (stop at : ℕ) → core.is_live before.live u ≡ true → GivesSince t old now before after u (λ g v w. IsBackSince t g (IsLawful t g) v w before.live after.live u stop at) → AskedBy t old (HasMark before.live u stop t)
+      → AskedBy t now (IsGoingBack after.live u stop at t)
+  back_since stop at live i s = record {
+    sizes = s.sizes;
+    from = λ told. s.from (i.told told);
+    means = λ told. i.means s.sizes (s.from (i.told told)) (s.means (i.told told));
+    can = λ told.
+        (let h = s.can (i.told told) in
+        let d = i.done s.sizes (s.from (i.told told)) (s.means (i.told told)) (i.told told) in
+        let is = sym (same_live before.live h.run.so_far.live u h.kept.live) ∙ live in
+        record { lawful = h.lawful; run = h.run; undoing = d.undoing h.run h.lawful h.kept is; live = is; within = h.within });
+  }
+
   pub taking_since : (at : ℕ) → core.is_live before.live u ≡ true → Since t old now before after (λ g v w. IsUndoingSince t g (IsLawful t g) v w before after u at) → AskedBy t old (IsRunning before.live t) → AskedBy t now (IsTakingBack after.live u at t)
   taking_since at live i s = record {
     sizes = s.sizes;
@@ -80,5 +93,5 @@ module _ {basis : Sizes → Ground} (t : Operations) (old now : Shown basis) (be
         (let h = s.can (i.told told) in
         let d = i.done s.sizes (s.from (i.told told)) (s.means (i.told told)) (i.told told) in
         let is = sym (same_live before.live h.run.so_far.live u h.kept.live) ∙ live in
-        record { lawful = h.lawful; run = h.run; undoing = subst (λ (k : Core). IsUndoing t (basis s.sizes) (led t s.sizes (s.from (i.told told)) now) k.live h.run u at) (sym i.same) (d.undoing h.run h.lawful h.kept is); live = is });
+        record { lawful = h.lawful; run = h.run; undoing = subst (λ (k : Core). IsUndoing t (basis s.sizes) (led t s.sizes (s.from (i.told told)) now) k.live h.run u 0 at) (sym i.same) (d.undoing h.run h.lawful h.kept is); live = is });
   }

@@ -10,7 +10,7 @@ use Rattle.sg_recovery.specs.Log.{Numbered, Top, tally, is_in, notes_of, notes_n
 use Rattle.sg_recovery.specs.Log.Record.{Commit, End}
 use Rattle.sg_recovery.specs.Laws.{Each, Note, bare}
 use Rattle.sg_recovery.specs.Setting.{Setting}
-use Rattle.sg_recovery.specs.Shows.{Pairs, Ranks}
+use Rattle.sg_recovery.specs.Shows.{Choice, Pairs, Ranks}
 use Rattle.sg_recovery.proofs.Basic.{same_number, other_number, number_is}
 use Rattle.sg_recovery.specs.Stands.{made}
 use Rattle.sg_room.specs.Lines.{IsLeft, UndoesEach, not_of, committed}
@@ -45,14 +45,14 @@ module _ (t : Operations) (g : Ground) where
   acted_stock v w1 w2 w k m x u op into one two (Err why) h = tt
 
   -- NOTES UNDONE, one call behind another
-  pub backs_then : (v w z : View g) (u : ℕ) → BacksStock t g v w u → BacksStock t g w z u → BacksStock t g v z u
-  backs_then v w z u one two r shown =
+  pub backs_then : (v w z : View g) (f : Choice) → BacksStock t g v w f → BacksStock t g w z f → BacksStock t g v z f
+  backs_then v w z f one two r shown =
       let a = one r shown in
       let b = two a.0 a.2 in
       (b.0, (λ after e. a.1 after (b.1 after e)), b.2)
 
-  pub backs_none : (v w : View g) (u : ℕ) → Rested t g v w → BacksStock t g v w u
-  backs_none v w u rested r shown = (r, (λ after e. e), stock_moves v w r rested.log rested.goes_on.first shown)
+  pub backs_none : (v w : View g) (f : Choice) → Rested t g v w → BacksStock t g v w f
+  backs_none v w f rested r shown = (r, (λ after e. e), stock_moves v w r rested.log rested.goes_on.first shown)
 
   -- the steps of others stay
   pub steps_left : (u : ℕ) (ns : List (Top g.C g.N)) → Each (λ n. n.transaction ≡ u → ⊥) ns → Each (IsLeft (is_of u)) (map (step_of g) ns)
@@ -60,7 +60,7 @@ module _ (t : Operations) (g : Ground) where
   steps_left u (n ∷ ns) h = (other_number n.transaction u h.0, steps_left u ns h.1)
 
   -- a transaction of which no note stands ends: all of it is undone
-  pub end_stock : (v w z : View g) (u l p : ℕ) → BacksStock t g v w u → notes_of u (tally w.log).notes ≡ []
+  pub end_stock : (v w z : View g) (u l p : ℕ) → BacksStock t g v w (is_of u) → notes_of u (tally w.log).notes ≡ []
       → Appended t g w z (record { lsn = l; is = End u p }) → (r : RunStock) → ShowsStock t g v r → ShowsStock t g z (backed (is_of u) r)
   end_stock v w z u l p backs none ended r shown =
       let b = backs r shown in

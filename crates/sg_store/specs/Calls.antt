@@ -1,5 +1,5 @@
 -- How a call of a store goes.
-use Rattle.std.specs.Prelude.{◌≡◌, ◌⊎◌, [], Bool, sum_by, ◌+◌, ◌<◌, ◌≤◌, ℕ, true, false, IsTrue, IsOk, nat_lt, List, Vec, Option, Some, None, Result, Ok, Err}
+use Rattle.std.specs.Prelude.{◌≡◌, ◌⊎◌, [], ◌∷◌, Bool, sum_by, ◌+◌, ◌<◌, ◌≤◌, ℕ, true, false, IsTrue, IsOk, nat_lt, List, Vec, Option, Some, None, Result, Ok, Err}
 use Rattle.sg_base.specs.declared.numbers.TxnId.{TxnId}
 use Rattle.sg_base.specs.Ends.{HasRisen}
 use Rattle.sg_disk.specs.Disk.{LeavesOnly}
@@ -12,22 +12,24 @@ use Rattle.sg_model.specs.Step.{step, is_changing}
 use Rattle.sg_model.specs.Touches.{touches, conflict}
 use Rattle.sg_run.specs.Numbers as numbers
 use Rattle.sg_run.specs.Numbers.{NEW_WORK_END, IsGranted}
-use Rattle.sg_store.specs.Refusals.{said_number, said_done, said_outcome, said_words}
+use Rattle.sg_store.specs.Refusals.{said_number, said_done, said_save, said_back, said_outcome, said_words}
 use Rattle.sg_run.specs.Run.{Run, MOST_HELD, committed, did, with_locks, held_with, live_objects, committed_objects}
+use Rattle.sg_store.specs.declared.fault.MarkRefused.{MarkRefused}
 use Rattle.sg_store.specs.declared.fault.Refused.{Refused}
 use Rattle.sg_store.specs.declared.fault.Refused.TheVariants as refusals
 use Rattle.sg_store.specs.declared.fault.Needed.{Needed}
 use Rattle.sg_model.specs.declared.op.Reply as code_reply
 use Rattle.sg_model.specs.SaidReplies.{said_reply}
 use Rattle.sg_core.specs.Live.{Txn}
+use Rattle.sg_core.specs.Live as core
 use Rattle.sg_store.specs.Verbs.{Reads, HasNeed}
-use Rattle.sg_store.specs.Ground.{Ground}
-use Rattle.sg_store.specs.Engine.{View, Sizes, Shown, KeepsBy, AsMeantBy, pages_of}
-use Rattle.sg_store.specs.Room.{ArePagesLeft, AreBandsLeft, LeadsStock, BacksStock, FreesStock}
+use Rattle.sg_store.specs.Ground.{Ground, setting}
+use Rattle.sg_store.specs.Engine.{View, Sizes, Shown, KeepsBy, AsMeantBy, NoneBehind, pages_of}
+use Rattle.sg_store.specs.Room.{ArePagesLeft, AreBandsLeft, LeadsStock, BacksStock, FreesStock, is_of, is_behind}
 use Rattle.sg_store.specs.Accounting.{Unfailed}
 use Rattle.sg_store.specs.Stands.{StandsFor, StandsForFirst}
-use Rattle.sg_store.specs.Store.{Core, IsKept, IsUndoing, IsLeaving, HasNone, Shows}
-use Rattle.sg_recovery.specs.Log.{tally, notes_of}
+use Rattle.sg_store.specs.Store.{Core, AreReserved, IsKept, IsUndoing, IsLeaving, HasNone, Shows}
+use Rattle.sg_recovery.specs.Log.{Top, tally, notes_of}
 use Rattle.sg_space.specs.declared.space.SpaceFault.{SpaceFault}
 
 -- A store that shows x goes on to a run that is related so, and shows that. In the call and after it a crash leaves what stands
@@ -48,6 +50,12 @@ Commits tail before now u x r y = numbers.Commits tail before now u x (said_done
 
 abbrev pub Aborts : (tail before now : ℕ) → (u : ℕ) → Run → Result (Unit {0}) Refused → Run → Type 0
 Aborts tail before now u x r y = numbers.Aborts tail before now u x (said_done r) y
+
+abbrev pub Saves : (tail before now : ℕ) → (u : ℕ) → Run → Result ℕ MarkRefused → Run → Type 0
+Saves tail before now u x r y = numbers.Saves tail before now u x (said_save r) y
+
+abbrev pub RollsBack : (tail before now : ℕ) → (u mark : ℕ) → Run → Result (Unit {0}) MarkRefused → Run → Type 0
+RollsBack tail before now u mark x r y = numbers.RollsBack tail before now u mark x (said_back r) y
 
 abbrev pub Flushes : (before now : ℕ) → Run → Result (Unit {0}) Refused → Run → Type 0
 Flushes before now x r y = numbers.Flushes before now x (said_done r) y
@@ -154,21 +162,51 @@ Acts t g v w k m x u op into (Err other) = ⊥
 
 -- the last action of a transaction that stood was undone, or none stood
 abbrev pub Undid : (t : Operations) (g : Ground) → (v w : View g) → List Txn → Run → (u at : ℕ) → Result (Option ℕ) SpaceFault → Type 0
-Undid t g v w txns x u at (Ok None) = IsUndoing t g w txns x u at × (notes_of u (tally w.log).notes ≡ []) × BacksStock t g v w u
-Undid t g v w txns x u at (Ok (Some after)) = IsUndoing t g w txns x u after × BacksStock t g v w u
+Undid t g v w txns x u at (Ok None) = IsUndoing t g w txns x u 0 at × (notes_of u (tally w.log).notes ≡ []) × BacksStock t g v w (is_of u)
+Undid t g v w txns x u at (Ok (Some after)) = IsUndoing t g w txns x u 0 after × BacksStock t g v w (is_of u)
 Undid t g v w txns x u at (Err fault) = Unit {0}
+
+-- A NOTE WAS UNDONE, the last of its transaction's that stood: the others' stand, and those below it
+pub record TookNote (t : Operations) (g : Ground) (v w : View g) (u : ℕ) (note : List ℕ) : Type 0 where
+  pub last : Top g.C g.N
+  pub own : List (Top g.C g.N)
+  pub was : notes_of u (tally v.log).notes ≡ last ∷ own
+  pub said : g.note note ≡ last.note
+  pub left : notes_of u (tally w.log).notes ≡ own
+  pub others : (n : ℕ) → (n ≡ u → ⊥) → notes_of n (tally w.log).notes ≡ notes_of n (tally v.log).notes
 
 -- nothing that a transaction did stands any more
 pub record IsUndone (t : Operations) (g : Ground) (w : View g) (txns : List Txn) (x : Run) (u : ℕ) : Type 0 where
   pub at : ℕ
-  pub undoing : IsUndoing t g w txns x u at
+  pub undoing : IsUndoing t g w txns x u 0 at
   pub none : notes_of u (tally w.log).notes ≡ []
+
+-- the last action of a transaction behind the record with a number was undone, or none stood there
+abbrev pub UndidTo : (t : Operations) (g : Ground) → (v w : View g) → List Txn → Run → (u stop at : ℕ) → (note : List ℕ) → Result (Option ℕ) SpaceFault → Type 0
+UndidTo t g v w txns x u stop at note (Ok None) = IsUndoing t g w txns x u (stop + 1) at × NoneBehind stop (notes_of u (tally w.log).notes)
+    × ((tally w.log).notes ≡ (tally v.log).notes) × BacksStock t g v w (is_behind u stop)
+UndidTo t g v w txns x u stop at note (Ok (Some after)) = IsUndoing t g w txns x u (stop + 1) after × TookNote t g v w u note × BacksStock t g v w (is_behind u stop)
+UndidTo t g v w txns x u stop at note (Err fault) = Unit {0}
+
+-- nothing that a transaction did behind the record with a number stands any more, and each has reserved what its notes want
+pub record IsBack (t : Operations) (g : Ground) (w : View g) (txns : List Txn) (x : Run) (u stop : ℕ) : Type 0 where
+  pub at : ℕ
+  pub undoing : IsUndoing t g w txns x u (stop + 1) at
+  pub reserved : AreReserved (setting t g) txns (tally w.log).notes
+  pub none : NoneBehind stop (notes_of u (tally w.log).notes)
+
+-- A GOING BACK SO FAR, from an engine and some live transactions on, of which this one has given back what it had reserved for what was undone
+pub record IsBackSince (t : Operations) (g : Ground) (lawful : Type 0) (v w : View g) (before now : List Txn) (u stop at : ℕ) : Type 0 where
+  pub stays : (x : Run) → lawful → IsKept t g v before x → is_live x.so_far.live u ≡ true → Stays t g v w x
+  pub undoing : (x : Run) → lawful → IsKept t g v before x → is_live x.so_far.live u ≡ true → IsUndoing t g w now x u (stop + 1) at
+  pub reserved : (x : Run) → lawful → IsKept t g v before x → is_live x.so_far.live u ≡ true → AreReserved (setting t g) now (tally w.log).notes
+  pub stock : (x : Run) → lawful → IsKept t g v before x → is_live x.so_far.live u ≡ true → BacksStock t g v w (is_behind u stop)
 
 -- an undoing so far, from an engine and some live transactions on
 pub record IsUndoingSince (t : Operations) (g : Ground) (lawful : Type 0) (v w : View g) (before now : Core) (u at : ℕ) : Type 0 where
   pub stays : (x : Run) → lawful → IsKept t g v before.live x → is_live x.so_far.live u ≡ true → Stays t g v w x
-  pub undoing : (x : Run) → lawful → IsKept t g v before.live x → is_live x.so_far.live u ≡ true → IsUndoing t g w before.live x u at
-  pub stock : (x : Run) → lawful → IsKept t g v before.live x → is_live x.so_far.live u ≡ true → BacksStock t g v w u
+  pub undoing : (x : Run) → lawful → IsKept t g v before.live x → is_live x.so_far.live u ≡ true → IsUndoing t g w before.live x u 0 at
+  pub stock : (x : Run) → lawful → IsKept t g v before.live x → is_live x.so_far.live u ≡ true → BacksStock t g v w (is_of u)
   pub later : v.faults ≤ w.faults
   pub tail : v.tail ≤ w.tail
   pub same : now ≡ before
@@ -202,4 +240,17 @@ pub record Since {basis : Sizes → Ground} (t : Operations) (old now : Shown ba
   pub tail : old.tail ≤ now.tail
   pub accounts : Unfailed old now
   pub same : after ≡ before
+  pub done : AsMeantBy t old now P
+
+-- and one in which a live transaction gives back what it has reserved
+pub record GivesSince {basis : Sizes → Ground} (t : Operations) (old now : Shown basis) (before after : Core) (u : ℕ) (P : (g : Ground) → (v w : View g) → Type 0) : Type 0 where
+  pub means : KeepsBy t old now
+  pub told : now.Told → old.Told
+  pub tells : old.Told → now.Told
+  pub later : old.faults ≤ now.faults
+  pub quiet : now.faults ≡ old.faults
+  pub tail : old.tail ≤ now.tail
+  pub accounts : Unfailed old now
+  pub same : after ≡ record before { live = after.live }
+  pub live : core.is_live after.live u ≡ true
   pub done : AsMeantBy t old now P

@@ -5,9 +5,12 @@ use Rattle.sg_base.specs.declared.numbers.TxnId.{TxnId}
 use Rattle.sg_base.specs.Ends.{HasRisen}
 use Rattle.sg_serial.specs.Locks.{released}
 use Rattle.sg_model.specs.declared.stop.Stop.TheVariants as stops
-use Rattle.sg_core.specs.Live.{begun, is_live, without}
-use Rattle.sg_run.specs.Run.{MOST_LIVE}
+use Rattle.sg_serial.specs.Runs.{nth_mark}
+use Rattle.sg_core.specs.Live.{begun, is_live, without, marks_of, remarking}
+use Rattle.sg_run.specs.Run.{MOST_LIVE, MOST_MARKS}
 use Rattle.sg_run.specs.Numbers.{NEW_WORK_END, IsAtEnd}
+use Rattle.sg_store.specs.declared.fault.MarkRefused.{MarkRefused}
+use Rattle.sg_store.specs.declared.fault.MarkRefused.TheVariants as marks
 use Rattle.sg_store.specs.declared.fault.Refused.{Refused}
 use Rattle.sg_store.specs.declared.fault.Refused.TheVariants as refusals
 use Rattle.sg_store.specs.declared.fault.Needed.{Needed}
@@ -21,6 +24,12 @@ AsksNothing refusals.Stopped = Unit {0}
 AsksNothing refusals.NoTxn = Unit {0}
 AsksNothing refusals.TooManyLive = Unit {0}
 AsksNothing other = ⊥
+
+-- of a call on the marks of a transaction
+abbrev pub AsksNoMark : MarkRefused → Type 0
+AsksNoMark marks.NoMark = Unit {0}
+AsksNoMark marks.MarksFull = Unit {0}
+AsksNoMark (marks.Store why) = AsksNothing why
 
 -- the call was refused for a fault of the disk, whose count rose, and the store has stopped
 abbrev pub BreaksFor : {basis : Sizes → Ground} → (old new : Shown basis) → (k m : Core) → Type 0
@@ -43,6 +52,29 @@ EndsFor u old new k m (Err refusals.NoTxn) = (k.stopped ≡ None) × (is_live k.
 EndsFor u old new k m (Err refusals.DiskFault) = (k.stopped ≡ None) × (is_live k.live u ≡ true) × BreaksFor old new k m
 EndsFor u old new k m (Err refusals.LogEnd) = (k.stopped ≡ None) × (is_live k.live u ≡ true) × IsAtEnd new.tail × (m ≡ record k { stopped = Some stops.LogEnd })
 EndsFor u old new k m (Err other) = ⊥
+
+-- a mark
+abbrev pub SavesFor : {basis : Sizes → Ground} → (u : ℕ) → (old new : Shown basis) → (k m : Core) → Result ℕ MarkRefused → Type 0
+SavesFor u old new k m (Ok n) = (k.stopped ≡ None) × (is_live k.live u ≡ true) × (length (marks_of k.live u) < MOST_MARKS) × (old.tail ≤ NEW_WORK_END)
+    × (n ≡ length (marks_of k.live u) + 1) × ((number : ℕ) × (m ≡ record k { live = remarking u (λ ms. ms ++ number ∷ []) k.live }))
+SavesFor u old new k m (Err (marks.Store refusals.Stopped)) = IsSome k.stopped × (m ≡ k)
+SavesFor u old new k m (Err (marks.Store refusals.NoTxn)) = (k.stopped ≡ None) × (is_live k.live u ≡ false) × (m ≡ k)
+SavesFor u old new k m (Err marks.MarksFull) = (k.stopped ≡ None) × (is_live k.live u ≡ true) × (MOST_MARKS ≤ length (marks_of k.live u)) × (m ≡ k)
+SavesFor u old new k m (Err (marks.Store refusals.LogEnd)) = (k.stopped ≡ None) × (is_live k.live u ≡ true) × (length (marks_of k.live u) < MOST_MARKS) × (NEW_WORK_END < old.tail) × (m ≡ k)
+SavesFor u old new k m (Err (marks.Store refusals.DiskFault)) = (k.stopped ≡ None) × (is_live k.live u ≡ true) × (length (marks_of k.live u) < MOST_MARKS) × (old.tail ≤ NEW_WORK_END) × BreaksFor old new k m
+SavesFor u old new k m (Err other) = ⊥
+
+-- a going back to a mark: the transaction has the marks up to this one, and has reserved no more than it had
+abbrev pub RollsFor : {basis : Sizes → Ground} → (u mark : ℕ) → (old new : Shown basis) → (k m : Core) → Result (Unit {0}) MarkRefused → Type 0
+RollsFor u mark old new k m (Ok done) = (k.stopped ≡ None) × (is_live k.live u ≡ true) × IsSome (nth_mark mark (marks_of k.live u)) × (m ≡ record k { live = m.live })
+RollsFor u mark old new k m (Err (marks.Store refusals.Stopped)) = IsSome k.stopped × (m ≡ k)
+RollsFor u mark old new k m (Err (marks.Store refusals.NoTxn)) = (k.stopped ≡ None) × (is_live k.live u ≡ false) × (m ≡ k)
+RollsFor u mark old new k m (Err marks.NoMark) = (k.stopped ≡ None) × (is_live k.live u ≡ true) × (nth_mark mark (marks_of k.live u) ≡ None) × (m ≡ k)
+RollsFor u mark old new k m (Err (marks.Store refusals.DiskFault)) = (k.stopped ≡ None) × (is_live k.live u ≡ true) × IsSome (nth_mark mark (marks_of k.live u))
+    × HasRisen old.faults new.faults × (m ≡ record k { live = m.live; stopped = Some stops.Disk })
+RollsFor u mark old new k m (Err (marks.Store refusals.LogEnd)) = (k.stopped ≡ None) × (is_live k.live u ≡ true) × IsSome (nth_mark mark (marks_of k.live u))
+    × IsAtEnd new.tail × (m ≡ record k { live = m.live; stopped = Some stops.LogEnd })
+RollsFor u mark old new k m (Err other) = ⊥
 
 -- a flush or a truncation
 abbrev pub FlushesFor : {basis : Sizes → Ground} → (old new : Shown basis) → (k m : Core) → Result (Unit {0}) Refused → Type 0

@@ -334,6 +334,22 @@ pub record IsAt (u : ℕ) (t : Operations) (g : Ground) (v : View g) : Type 0 wh
   pub rest : IsAtRest t g v
   pub live : is_in u (tally v.log).live ≡ true
 
+-- and the record with this number isn't before its begin
+pub record IsAtMark (u stop : ℕ) (t : Operations) (g : Ground) (v : View g) : Type 0 where
+  pub rest : IsAtRest t g v
+  pub live : is_in u (tally v.log).live ≡ true
+  pub within : u ≤ stop
+
+-- the last of some notes, which stands first, isn't behind the record with this number
+abbrev pub NoneBehind : {C N : Type 0} → (stop : ℕ) → List (Top C N) → Type 0
+NoneBehind stop [] = Unit {0}
+NoneBehind stop (n ∷ ns) = n.lsn ≤ stop
+
+-- the so many-th mark of those that a transaction may have
+pub record IsMark (mark : ℕ) : Type 0 where
+  pub some : 1 ≤ mark
+  pub most : mark ≤ 16
+
 -- it has begun and not ended
 pub record MayEnd (u : ℕ) (t : Operations) (g : Ground) (v : View g) : Type 0 where
   pub rest : IsAtRest t g v

@@ -7,8 +7,11 @@ use Rattle.sg_model.specs.Verb.{Reply}
 use Rattle.sg_model.specs.Verb.Reply.{Several}
 use Rattle.sg_locks.specs.declared.table.LockAnswer.{LockAnswer}
 use Rattle.sg_locks.specs.declared.table.LockAnswer.TheVariants as locks
-use Rattle.sg_run.specs.Numbers.{Refusal}
+use Rattle.sg_run.specs.Numbers.{Refusal, MarkRefusal}
+use Rattle.sg_run.specs.Numbers.MarkRefusal.{NoMark, MarksFull, Otherwise}
 use Rattle.sg_run.specs.Numbers.Refusal.{NoTransaction, TooManyLive, Busy, LocksFull, Because, NoSpace, NoBands, LogEnd, Memory, Disk, Stopped}
+use Rattle.sg_store.specs.declared.fault.MarkRefused.{MarkRefused}
+use Rattle.sg_store.specs.declared.fault.MarkRefused.TheVariants as marks
 use Rattle.sg_store.specs.declared.fault.Refused.{Refused}
 use Rattle.sg_store.specs.declared.fault.Refused.TheVariants as refusals
 
@@ -43,6 +46,20 @@ said_outcome into (Err e) = Err (said_refusal e)
 abbrev pub said_words : {A : Type 0} → Result (Vec (List ℕ) A) Refused → Result Reply Refusal
 said_words (Ok words) = Ok (Several words.items)
 said_words (Err e) = Err (said_refusal e)
+
+-- of a call on the marks of a transaction
+abbrev pub said_why : MarkRefused → MarkRefusal
+said_why marks.NoMark = NoMark
+said_why marks.MarksFull = MarksFull
+said_why (marks.Store why) = Otherwise (said_refusal why)
+
+abbrev pub said_save : Result ℕ MarkRefused → Result ℕ MarkRefusal
+said_save (Ok n) = Ok n
+said_save (Err why) = Err (said_why why)
+
+abbrev pub said_back : Result (Unit {0}) MarkRefused → Result (Unit {0}) MarkRefusal
+said_back (Ok done) = Ok done
+said_back (Err why) = Err (said_why why)
 
 -- of what asking for locks came to
 abbrev pub said_lock : LockAnswer → Result (Unit {0}) Refused

@@ -53,6 +53,11 @@ pub record HasCommitted (u : ℕ) (live : List ℕ) (objects before : Objects) (
   pub has : HasObjects (without u live) objects after k t g v
   pub added : HasAdded t u before after
 
+-- a transaction has gone back to a mark: what is durable is as before
+pub record HasGoneBack (live : List ℕ) (durable : Objects) (k : Core) (t : Operations) (g : Ground) (v : View g) : Type 0 where
+  pub after : Objects
+  pub has : HasObjects live after durable k t g v
+
 -- a transaction has been taken back: what is durable is as before
 pub record HasAborted (u : ℕ) (live : List ℕ) (durable : Objects) (k : Core) (t : Operations) (g : Ground) (v : View g) : Type 0 where
   pub after : Objects

@@ -1,5 +1,5 @@
 -- What is free, by the objects and what is buried; and the stock that a store shows of its run.
-use Rattle.std.specs.Prelude.{◌≡◌, ℕ, ◌+◌, ◌≤◌, ◌==◌, map, Some}
+use Rattle.std.specs.Prelude.{◌≡◌, ℕ, ◌+◌, ◌≤◌, ◌==◌, ◌&&◌, nat_lt, map, Some}
 use Rattle.sg_ops.specs.Table.{Table as Operations}
 use Rattle.sg_room.specs.Bounds.{ObeysStock, page_sum, band_sum}
 use Rattle.sg_model.specs.Objects.{Objects}
@@ -55,11 +55,15 @@ LeadsStock t g v w s transaction op = (r : RunStock) → ShowsStock t g v r → 
 abbrev pub is_of : (transaction : ℕ) → Choice
 is_of transaction = λ u at. u == transaction
 
--- Some entries of a transaction were undone, one by one and the newest that stood each time: what the undoing of the rest leads to, the undoing of
+-- those of one transaction behind a number
+abbrev pub is_behind : (transaction number : ℕ) → Choice
+is_behind transaction number = λ u at. u == transaction && nat_lt number at
+
+-- Some of the chosen entries were undone, one by one and the newest that stood each time: what the undoing of the rest leads to, the undoing of
 -- all leads to
-abbrev pub BacksStock : (t : Operations) (g : Ground) → (v w : View g) → (transaction : ℕ) → Type 0
-BacksStock t g v w transaction = (r : RunStock) → ShowsStock t g v r → (r' : RunStock)
-    × ((after : RunStock) → UndoesEach (is_of transaction) r' after → UndoesEach (is_of transaction) r after) × ShowsStock t g w r'
+abbrev pub BacksStock : (t : Operations) (g : Ground) → (v w : View g) → Choice → Type 0
+BacksStock t g v w chosen = (r : RunStock) → ShowsStock t g v r → (r' : RunStock)
+    × ((after : RunStock) → UndoesEach chosen r' after → UndoesEach chosen r after) × ShowsStock t g w r'
 
 -- Some of what a transaction dropped was freed: its commit makes the same of the stock as it would have before, and nobody's undoing takes anything else
 abbrev pub FreesStock : (t : Operations) (g : Ground) → (v w : View g) → (transaction : ℕ) → Type 0

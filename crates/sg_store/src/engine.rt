@@ -2,6 +2,7 @@ ghost use Rattle.std.specs.Prelude.{◌≡◌, ◌≤◌, ◌<◌, ◌+◌, ℕ,
 ghost use Rattle.sg_base.specs.Ends.{HasRisen};
 ghost use Rattle.sg_disk.specs.Disk.{Image};
 ghost use Rattle.sg_checkpoints.specs.Checkpoints.{HasMarked, StaysMarked};
+ghost use Rattle.sg_checkpoints.specs.Cutting.{IsCut};
 ghost use Rattle.sg_ops.specs.Table.{table_of};
 ghost use Rattle.sg_model.specs.SaidOps.{said_op};
 ghost use Rattle.sg_model.specs.TouchList.{shown_touches};
@@ -10,15 +11,17 @@ ghost use Rattle.sg_model.specs.Step.{is_changing};
 ghost use Rattle.sg_model.specs.Verb.Op.{On, Names};
 ghost use Rattle.sg_model.specs.Verb.Verb.{Keys};
 ghost use Rattle.sg_recovery.specs.Log.{Top, tally, notes_of};
-ghost use Rattle.sg_recovery.specs.Log.Record.{Begin, TopEnd, CompEnd, Commit};
+ghost use Rattle.sg_recovery.specs.Log.Record.{Begin, TopEnd, CompEnd, Save, Commit};
 ghost use Rattle.sg_store.specs.Ground.{Ground};
-ghost use Rattle.sg_store.specs.Engine.{Sizes, Shown, Keeps, KeepsBy, AsMeant, AsMeantBy, IfMeant, Asked, AskedBy, IsOldest, Action, IsEngine, IsIdle, pages_of, Appends, Appended, Changes, Changed, Rests, Rested, EndsOne, Counts, IsNearEnd, IsVerbEnd, VERB_BYTES, IsDiskFault, IsObjDisk, IsReadFault, IsRefusedQuietly, IsListDisk, IsListRead, IsNextUndo, IsAtRest, HasPlace, IsAt, MayAct, MayEnd, ActsFor, ActsBack, IsFirst};
+ghost use Rattle.sg_store.specs.Engine.{Sizes, Shown, Keeps, KeepsBy, AsMeant, AsMeantBy, IfMeant, Asked, AskedBy, IsOldest, Action, IsEngine, IsIdle, pages_of, Appends, Appended, Changes, Changed, Rests, Rested, EndsOne, Counts, IsNearEnd, IsVerbEnd, VERB_BYTES, IsDiskFault, IsObjDisk, IsReadFault, IsRefusedQuietly, IsListDisk, IsListRead, IsNextUndo, IsAtRest, HasPlace, IsAt, IsAtMark, IsMark, NoneBehind, MayAct, MayEnd, ActsFor, ActsBack, IsFirst};
 ghost use Rattle.sg_store.specs.Room.{LeavesRoom};
+ghost use Rattle.sg_store.specs.Telling.{IsTellDisk, IsUntoldQuietly, CountsListener, HasTold};
 ghost use Rattle.sg_store.specs.Verbs.{Reads, CanLook, CanPerform, CanDo, CanReverse, CanTakeBack, CanFree, Reversed, HasPerformed, HasNeeds, HasKeys, HasNames, FreesNext};
 
-use crate::fault::{Needed, ObjFault};
+use crate::fault::{Needed, ObjFault, TellFault};
 use sg_base::{Lsn, Name, TxnId};
 use sg_bucket::Bytes;
+use sg_lines::Listener;
 use sg_model::{Op, Reason, Reply, Touches};
 use sg_ops::Ops;
 use sg_space::{ListFault, SpaceFault, UndoNote};
@@ -343,12 +346,84 @@ pub trait Lists: Objects {
         ensures reads { IfErr result IsListRead };
 }
 
+/// An engine that tells of its objects.
+pub trait Tells: Lists {
+    /// Tells a listener of all objects, in the order of their names, a part at a time, and gives how many there are. The names are
+    /// held, and the keys of a table while that is told of; no object is. Nothing is written to the log. Where memory is refused or the
+    /// listener fails nothing has changed.
+    fn tell<L: Listener>(&mut self, alloc: Global, to: &mut L) -> Result<u64, TellFault>
+        requires can { Asked (Self.view self.old) CanLook }
+        ensures counts { Counts IsTellDisk (Self.view self.old) (Self.view self.new) result }
+        ensures means { Keeps (Self.view self.old) (Self.view self.new) }
+        ensures tail { (Self.view self.new).tail ≡ (Self.view self.old).tail }
+        ensures tells { AsMeant (Self.view self.old) (Self.view self.new) (λ t g v w. (o : g.O)
+            → IsEngine t g v → Reads t g v o → Rests t g v w × HasTold L.ears to.old to.new t g v w o result) }
+        ensures quiet { IfErr result (IsUntoldQuietly (Self.view self.old) (Self.view self.new)) }
+        ensures listener { CountsListener L.ears to.old to.new result };
+}
+
+/// An engine whose transactions set marks, and can be undone as far as one.
+pub trait Marks: Objects {
+    /// Sets a mark of a live transaction, the so many-th of those that it then has, and answers the number of its
+    /// record. No page and no band changes.
+    fn save(&mut self, txn: TxnId, mark: u16) -> Result<Lsn, SpaceFault>
+        requires can { Asked (Self.view self.old) (IsAt txn.0) }
+        requires mark { IsMark mark }
+        ensures counts { Counts IsDiskFault (Self.view self.old) (Self.view self.new) result }
+        ensures means { Keeps (Self.view self.old) (Self.view self.new) }
+        ensures log_end { IfErr result (IsNearEnd (Self.view self.old).tail) }
+        ensures saves { AsMeant (Self.view self.old) (Self.view self.new) (λ t g v w. IsEngine t g v → IsIdle v
+            → (lsn : ℕ) × (previous : ℕ) × Appends t g v w (record { lsn = lsn; is = Save txn.0 previous mark })
+            × IfOk result (λ number. (number ≡ lsn)
+            × Appended t g v w (record { lsn = lsn; is = Save txn.0 previous mark }))) };
+
+    /// Begins an action that undoes the last standing note of a live transaction, as `undo_step` does, where that
+    /// note is of an action behind the record with this number; `None` exactly where none stands there.
+    fn undo_step_to(
+        &mut self,
+        txn: TxnId,
+        stop: Lsn,
+        into: &mut UndoNote,
+    ) -> Result<Option<Lsn>, SpaceFault>
+        requires can { Asked (Self.view self.old) (IsAtMark txn.0 stop) }
+        ensures counts { Counts IsDiskFault (Self.view self.old) (Self.view self.new) result }
+        ensures means { Keeps (Self.view self.old) (Self.view self.new) }
+        ensures log_end { IfErr result (IsNearEnd (Self.view self.new).tail) }
+        ensures none { AsMeant (Self.view self.old) (Self.view self.new) (λ t g v w. IsEngine t g v → IsIdle v → result ≡ Ok None
+            → NoneBehind stop (notes_of txn.0 (tally v.log).notes) × Rested t g v w) }
+        ensures some { AsMeant (Self.view self.old) (Self.view self.new) (λ t g v w. (a : Action g)
+            → IsEngine t g v → IsIdle v
+            → a ≡ record { transaction = txn.0; pages = pages_of t g v }
+            → (c : Changes t g a v w)
+            × IfOk result (λ after. IfSome after (λ next. (n : Top g.C g.N)
+            × (ns : List (Top g.C g.N)) × (stop + 1 ≤ n.lsn)
+            × (notes_of txn.0 (tally v.log).notes ≡ n ∷ ns)
+            × (n.undo_next ≡ next) × (g.note into.new ≡ n.note)
+            × g.PutsBack t n.note n.changes (tally w.log).opened a.pages (pages_of t g w)
+            × (w.free_pages ≡ v.free_pages) × Changed t g a v w c.made))) };
+
+    /// Whether the undoing of a note wants a page.
+    fn wants_page(&self, note: &UndoNote) -> bool
+        ensures { IfMeant (Self.view self.now) (λ t g v. result ≡ g.wants (g.note note.now)) };
+}
+
 /// An engine whose log can be cut at its front.
 pub trait Truncates: Objects {
+    /// The number of the byte behind the log's first frame.
+    ghost first_frame_end: { Self → ℕ };
+
+    /// The number of the log's last checkpoint, durable or not.
+    ghost last_checkpoint: { Self → Option ℕ };
+
+    /// The superblock can't be renewed any more: hardly any of its numbers is left.
+    ghost is_spent: { Self → Type 0 };
+
     /// Makes the log durable and cuts off of it what neither redo nor undo wants any more, where `oldest`
-    /// is the live transaction that began first.
+    /// is the live transaction that began first: it begins then with the frame that holds the least of the changes
+    /// that aren't home, the begin of `oldest` and the last checkpoint. Without a checkpoint nothing is cut.
     fn truncate(&mut self, oldest: Option<TxnId>) -> Result<(), SpaceFault>
         requires can { Asked (Self.view self.old) (IsFirst oldest) }
+        ensures cuts { OnOk result ((Self.view self.old).Told → IsCut (Self.unwritten self.old) oldest (last_checkpoint self.old) (is_spent self.old) (Self.view self.old).start (Self.view self.new).start (first_frame_end self.new)) }
         ensures counts { Counts IsDiskFault (Self.view self.old) (Self.view self.new) result }
         ensures means { Keeps (Self.view self.old) (Self.view self.new) }
         ensures reads { IfErr result IsDiskFault }

@@ -24,6 +24,41 @@ pub struct Needed {
     pub reserve: u32,
 }
 
+/// Why an engine doesn't tell of its objects to their end.
+#[derive(Clone, Copy, Debug, PartialEq, Eq)]
+pub enum TellFault {
+    /// A call of the disk failed.
+    Disk,
+    /// Memory was refused.
+    Memory,
+    /// The listener failed.
+    Listener,
+}
+
+/// Why a store doesn't tell of its objects to their end.
+#[derive(Clone, Copy, Debug, PartialEq, Eq)]
+pub enum Untold {
+    /// A call of the disk failed, and the store has stopped.
+    DiskFault,
+    /// The store had stopped.
+    Stopped,
+    /// Memory was refused.
+    Memory,
+    /// The listener failed.
+    Listener,
+}
+
+/// Why a store isn't checked.
+#[derive(Clone, Copy, Debug, PartialEq, Eq)]
+pub enum CheckRefused {
+    /// A call of the disk failed, and the store has stopped.
+    DiskFault,
+    /// The store had stopped.
+    Stopped,
+    /// Memory was refused.
+    Memory,
+}
+
 /// Why a store refused a call.
 #[derive(Clone, Copy, Debug, PartialEq, Eq)]
 pub enum Refused {
@@ -49,6 +84,17 @@ pub enum Refused {
     DiskFault,
     /// The store had stopped.
     Stopped,
+}
+
+/// Why a store refused a call on the marks of a transaction.
+#[derive(Clone, Copy, Debug, PartialEq, Eq)]
+pub enum MarkRefused {
+    /// The transaction has no such mark.
+    NoMark,
+    /// The transaction has as many marks as it may.
+    MarksFull,
+    /// For what other calls are refused for too.
+    Store(Refused),
 }
 
 // Why an operation is refused, in words.
@@ -98,3 +144,15 @@ impl fmt::Display for Refused {
 }
 
 impl Error for Refused {}
+
+impl fmt::Display for MarkRefused {
+    fn fmt<W: fmt::Write>(&self, f: &mut fmt::Formatter<W>) -> fmt::Result {
+        match *self {
+            MarkRefused::NoMark => f.write_str("the transaction has no such mark"),
+            MarkRefused::MarksFull => f.write_str("the transaction has as many marks as it may"),
+            MarkRefused::Store(why) => fmt::Display::fmt(&why, f),
+        }
+    }
+}
+
+impl Error for MarkRefused {}

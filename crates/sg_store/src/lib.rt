@@ -2,9 +2,10 @@
 //! the run of its transactions is, and what each image stands for that a crash may leave.
 //!
 //! It stands on `sg_run`, whose runs it shows, on `sg_recovery` and `sg_join`, which say what a log of
-//! pages stands for, on `sg_locks` and `sg_core`. Of pages it knows four traits: `Engine`, an engine with a
+//! pages stands for, on `sg_locks` and `sg_core`. Of pages it knows six traits: `Engine`, an engine with a
 //! log in which actions are done and undone; `Objects`, what operations on objects do in it; `Lists`, for
-//! lists of keys and names; and `Truncates`, for an engine whose log can be cut. It
+//! lists of keys and names; `Tells`, for an engine that tells a listener of its objects; `Marks`, for one whose transactions set
+//! marks; and `Truncates`, for one whose log can be cut. It
 //! promises that each call of a store leads its run on as a line may, with the cause of each refusal;
 //! that in each call and after it every image stands for the objects after the transactions that were
 //! committed, or with the call's own commit; and that a store that has stopped makes no call. It says so
@@ -20,8 +21,9 @@ mod fault;
 mod laws;
 mod listing;
 mod store;
+mod telling;
 
-pub use engine::{Engine, Lists, Objects, Truncates};
-pub use fault::{Needed, ObjFault, Refused};
+pub use engine::{Engine, Lists, Marks, Objects, Tells, Truncates};
+pub use fault::{CheckRefused, MarkRefused, Needed, ObjFault, Refused, TellFault, Untold};
 pub use laws::breaks_dont_count;
 pub use store::Store;

@@ -6,8 +6,8 @@ ghost use Rattle.std.specs.List.{list_all};
 ghost use Rattle.sg_core.specs.Live.{is_live};
 ghost use Rattle.sg_store.specs.Drops.{drops, marked_by};
 
-use crate::engine::{Objects, Truncates};
-use crate::fault::{Needed, ObjFault, Refused};
+use crate::engine::{Marks, Objects, Truncates};
+use crate::fault::{MarkRefused, Needed, ObjFault, Refused};
 use sg_base::{Lsn, OutOfMemory, TxnId};
 use sg_core::Txns;
 use sg_locks::{LockAnswer, Locks};
@@ -21,6 +21,9 @@ const NEW_WORK_END: u64 = 1 << 62;
 
 /// The most transactions that are live at a time.
 const MOST_LIVE: u32 = 64;
+
+/// The most marks that a transaction has.
+const MOST_MARKS: u16 = 16;
 
 /// Objects over a page engine, and the transactions that are at work on them.
 pub struct Store<E: Objects> {
@@ -708,11 +711,11 @@ impl<E: Objects> Store<E> {
         ensures tells { OnOk result ((E.view self.old.engine).Told → (E.view self.new.engine).Told) }
         ensures stays { let t = table_of record_meaning range_meaning ops.now in
             AsMeantBy t (E.view self.old.engine) (E.view self.new.engine) (λ g v w.
-            (x : Run) → IsLawful t g → IsUndoing t g v self.old.txns x txn.0 at
+            (x : Run) → IsLawful t g → IsUndoing t g v self.old.txns x txn.0 0 at
             → serial.is_live x.so_far.live txn.0 ≡ true → Stays t g v w x) }
         ensures undid { let t = table_of record_meaning range_meaning ops.now in
             AsMeantBy t (E.view self.old.engine) (E.view self.new.engine) (λ g v w.
-            (x : Run) → IsLawful t g → IsUndoing t g v self.old.txns x txn.0 at
+            (x : Run) → IsLawful t g → IsUndoing t g v self.old.txns x txn.0 0 at
             → serial.is_live x.so_far.live txn.0 ≡ true
             → Undid t g v w self.old.txns x txn.0 at result) }
         ensures failed { IfErr result (λ e. IsDiskFault e
@@ -761,7 +764,7 @@ impl<E: Objects> Store<E> {
         ensures stock { let t = table_of record_meaning range_meaning ops.now in
             OnOk result (AsMeantBy t (E.view self.old.engine) (E.view self.new.engine) (λ g v w.
             (x : Run) → IsLawful t g → IsKept t g v self.old.txns x
-            → serial.is_live x.so_far.live txn.0 ≡ true → BacksStock t g v w txn.0)) }
+            → serial.is_live x.so_far.live txn.0 ≡ true → BacksStock t g v w (is_of txn.0))) }
         ensures failed { IfErr result (λ e. IsDiskFault e
             → HasRisen (E.view self.old.engine).faults (E.view self.new.engine).faults) }
         ensures log_end { IfErr result (IsNearEnd (E.view self.new.engine).tail) }
@@ -885,10 +888,261 @@ impl<E: Objects> Store<E> {
         drop(txns);
         (done, engine)
     }
+
+    /// Makes the log durable and writes all that was done home, with no checkpoint, and hands the engine back, with why that failed if it
+    /// did: the end of a store that was only read. What live transactions did is undone where the store is opened again.
+    pub fn close_unmarked(self) -> (Result<(), Refused>, E)
+        requires serves { IsServed self }
+        ensures means { Keeps (E.view self.engine) (E.view result.1) }
+        ensures flushes { AsMeant (E.view self.engine) (E.view result.1) (λ t g v w.
+            (x : Run) → IsLawful t g → Shows t g v (core_of self) x
+            → (m : Core) × Goes t g v x (Flushes v.faults w.faults x result.0) w m) }
+        ensures written { OnOk result.0 ((lsn : ℕ) → E.unwritten result.1 lsn → ⊥) }
+        // on any engine
+        ensures causes { (m : Core) × FlushesFor (E.view self.engine) (E.view result.1) (core_of self) m result.0 }
+        ensures stopped { IsSome self.stop → (result.1 ≡ self.engine) × (result.0 ≡ Err Refused.Stopped) }
+        ensures heeds { Heeds self.stop (stop_behind self.stop result.0) (E.view self.engine) (E.view result.1) }
+    {
+        let mut store = self;
+        let done = store.flush();
+        let Store {
+            engine,
+            locks,
+            txns,
+            touches: _,
+            note: _,
+            stop: _,
+        } = store;
+        drop(locks);
+        drop(txns);
+        (done, engine)
+    }
+}
+
+impl<E: Marks> Store<E> {
+    ghost use Rattle.std.specs.Prelude.{OnOk, IfErr, IfSome, Some, None, true, ◌≤◌};
+    ghost use Rattle.sg_base.specs.Ends.{HasRisen};
+    ghost use Rattle.sg_serial.specs.Runs as serial;
+    ghost use Rattle.sg_serial.specs.Runs.{nth_mark};
+    ghost use Rattle.sg_core.specs.Live.{marks_of};
+    ghost use Rattle.sg_store.specs.Causes.{AsksNoMark, SavesFor, RollsFor};
+    ghost use Rattle.sg_ops.specs.Table.{Table as Operations, table_of};
+    ghost use Rattle.sg_run.specs.Run.{Run};
+    ghost use Rattle.sg_model.specs.Objects.{Objects as Model};
+    ghost use Rattle.sg_store.specs.Accounting.{AccountsFor};
+    ghost use Rattle.sg_store.specs.Asks.{HasMark, IsGoingBack};
+    ghost use Rattle.sg_store.specs.Drops.{given_by};
+    ghost use Rattle.sg_store.specs.Ground.{IsLawful};
+    ghost use Rattle.sg_store.specs.Store.{Shows, IsKept, IsUndoing};
+    ghost use Rattle.sg_store.specs.Engine.{Keeps, KeepsBy, AsMeant, AsMeantBy, AskedBy, IfMeant, IsDiskFault, IsNearEnd};
+    ghost use Rattle.sg_store.specs.Rests.{Has, HasGoneBack};
+    ghost use Rattle.sg_store.specs.Room.{ShowsStock, BacksStock, is_behind};
+    ghost use Rattle.sg_room.specs.Steps.{RunStock, backed};
+    ghost use Rattle.sg_store.specs.Calls.{Goes, Stays, Saves, RollsBack, UndidTo, IsBack};
+    ghost use Rattle.sg_store.specs.Stock.{LeavesStock};
+    ghost use Rattle.sg_store.specs.Seen.{core_of, Serves, IsServed};
+    ghost use Rattle.sg_store.specs.Heeds.{Heeds};
+
+    /// Sets a mark of a live transaction, of which it has 16 at most, and answers its number: the first is 1.
+    pub fn save(&mut self, txn: TxnId) -> Result<u16, MarkRefused>
+        requires serves { IsServed self.old }
+        ensures serves { (t : Operations) → Serves t self.old → Serves t self.new }
+        // the transactions and the objects are as before
+        ensures rests { (t : Operations) (live : List ℕ) (objects durable : Model) → Has t self.old live objects durable
+            → OnOk result (Has t self.new live objects durable) }
+        ensures told { (E.view self.new.engine).Told → (E.view self.old.engine).Told }
+        ensures means { Keeps (E.view self.old.engine) (E.view self.new.engine) }
+        ensures saves { AsMeant (E.view self.old.engine) (E.view self.new.engine) (λ t g v w.
+            (x : Run) → IsLawful t g → Shows t g v (core_of self.old) x
+            → Goes t g v x (Saves v.tail v.faults w.faults txn.0 x result) w (core_of self.new)) }
+        // unless the store has stopped, the stock is left alone
+        ensures stock { self.new.stop ≡ None → AsMeant (E.view self.old.engine) (E.view self.new.engine) (λ t g v w.
+            (x : Run) → IsLawful t g → Shows t g v (core_of self.old) x → LeavesStock t g v w) }
+        // on any engine
+        ensures causes { SavesFor txn.0 (E.view self.old.engine) (E.view self.new.engine) (core_of self.old) (core_of self.new) result }
+        ensures asks { IfErr result (λ e. (e ≡ MarkRefused.Store Refused.DiskFault → ⊥) → self.new ≡ self.old) }
+        ensures heeds { Heeds self.old.stop self.new.stop (E.view self.old.engine) (E.view self.new.engine) }
+    {
+        if self.stop.is_some() {
+            return Err(MarkRefused::Store(Refused::Stopped));
+        }
+        if !self.txns.is_live(txn) {
+            return Err(MarkRefused::Store(Refused::NoTxn));
+        }
+        let count = self.txns.marks(txn);
+        if count >= MOST_MARKS {
+            return Err(MarkRefused::MarksFull);
+        }
+        if self.engine.tail() > NEW_WORK_END {
+            return Err(MarkRefused::Store(Refused::LogEnd));
+        }
+        match self.engine.save(txn, count + 1) {
+            Ok(at) => Ok(self.txns.push_mark(txn, at)),
+            Err(_) => {
+                self.stop = Some(Stop::Disk);
+                Err(MarkRefused::Store(Refused::DiskFault))
+            }
+        }
+    }
+
+    // Undoes the last action of a live transaction that stands behind the record with the number `stop`, which no
+    // note above `at` does, and answers the number behind which undoing goes on.
+    fn undo_one_to(
+        &mut self,
+        ops: &Ops,
+        txn: TxnId,
+        stop: Lsn,
+        at: Lsn,
+    ) -> Result<Option<Lsn>, SpaceFault>
+        requires can { let t = table_of record_meaning range_meaning ops.now in
+            AskedBy t (E.view self.old.engine) (IsGoingBack self.old.txns txn.0 stop at t) }
+        ensures falls { IfOk result (λ r. IfSome r (λ after. after < at)) }
+        ensures means { KeepsBy (table_of record_meaning range_meaning ops.now) (E.view self.old.engine) (E.view self.new.engine) }
+        ensures told { (E.view self.new.engine).Told → (E.view self.old.engine).Told }
+        ensures tells { OnOk result ((E.view self.old.engine).Told → (E.view self.new.engine).Told) }
+        ensures stays { let t = table_of record_meaning range_meaning ops.now in
+            AsMeantBy t (E.view self.old.engine) (E.view self.new.engine) (λ g v w.
+            (x : Run) → IsLawful t g → IsUndoing t g v self.old.txns x txn.0 (stop + 1) at
+            → serial.is_live x.so_far.live txn.0 ≡ true → Stays t g v w x) }
+        ensures undid { let t = table_of record_meaning range_meaning ops.now in
+            AsMeantBy t (E.view self.old.engine) (E.view self.new.engine) (λ g v w.
+            (x : Run) → IsLawful t g → IsUndoing t g v self.old.txns x txn.0 (stop + 1) at
+            → serial.is_live x.so_far.live txn.0 ≡ true
+            → UndidTo t g v w self.old.txns x txn.0 stop at self.new.note result) }
+        ensures failed { IfErr result (λ e. IsDiskFault e
+            → HasRisen (E.view self.old.engine).faults (E.view self.new.engine).faults) }
+        ensures log_end { IfErr result (IsNearEnd (E.view self.new.engine).tail) }
+        ensures later { (E.view self.old.engine).faults ≤ (E.view self.new.engine).faults }
+        ensures tail { (E.view self.old.engine).tail ≤ (E.view self.new.engine).tail }
+        ensures core { core_of self.new ≡ core_of self.old }
+        ensures quiet { OnOk result ((E.view self.new.engine).faults ≡ (E.view self.old.engine).faults) }
+        ensures accounts { AccountsFor IsDiskFault (E.view self.old.engine) (E.view self.new.engine) result }
+    {
+        let next = match self.engine.undo_step_to(txn, stop, &mut self.note) {
+            Ok(Some(next)) => next,
+            Ok(None) => return Ok(None),
+            Err(fault) => return Err(fault),
+        };
+        if next >= at {
+            return Err(self.engine.broken());
+        }
+        match self.engine.reverse(ops, &self.note) {
+            Ok(()) => {}
+            Err(fault) => return Err(fault),
+        }
+        match self.engine.end_undo(txn, next) {
+            Ok(()) => Ok(Some(next)),
+            Err(fault) => Err(fault),
+        }
+    }
+
+    // A live transaction gives back the page that it had reserved for the note that was undone, if that wants one.
+    fn give_back(&mut self, txn: TxnId)
+        requires { IsTrue (is_live self.old.txns txn.0) }
+        ensures core { core_of self.new ≡ record (core_of self.old) { live = self.new.txns } }
+        ensures live { IsTrue (is_live self.new.txns txn.0) }
+        ensures engine { self.new.engine ≡ self.old.engine }
+        ensures given { IfMeant (E.view self.old.engine) (λ t g v.
+            self.new.txns ≡ given_by (g.wants (g.note self.old.note)) txn.0 self.old.txns) }
+    {
+        if !self.engine.wants_page(&self.note) {
+            return;
+        }
+        self.txns.unreserve(txn);
+    }
+
+    // Undoes what a live transaction has done behind the record with the number `stop`, its last action first.
+    fn undo_to(&mut self, ops: &Ops, txn: TxnId, stop: Lsn) -> Result<(), SpaceFault>
+        requires live { IsTrue (is_live self.old.txns txn.0) }
+        requires can { let t = table_of record_meaning range_meaning ops.now in
+            AskedBy t (E.view self.old.engine) (HasMark self.old.txns txn.0 stop t) }
+        ensures means { KeepsBy (table_of record_meaning range_meaning ops.now) (E.view self.old.engine) (E.view self.new.engine) }
+        ensures told { (E.view self.new.engine).Told → (E.view self.old.engine).Told }
+        ensures tells { OnOk result ((E.view self.old.engine).Told → (E.view self.new.engine).Told) }
+        ensures stays { let t = table_of record_meaning range_meaning ops.now in
+            AsMeantBy t (E.view self.old.engine) (E.view self.new.engine) (λ g v w.
+            (x : Run) → IsLawful t g → IsKept t g v self.old.txns x
+            → serial.is_live x.so_far.live txn.0 ≡ true → Stays t g v w x) }
+        ensures undone { let t = table_of record_meaning range_meaning ops.now in
+            OnOk result (AsMeantBy t (E.view self.old.engine) (E.view self.new.engine) (λ g v w.
+            (x : Run) → IsLawful t g → IsKept t g v self.old.txns x
+            → serial.is_live x.so_far.live txn.0 ≡ true → IsBack t g w self.new.txns x txn.0 stop)) }
+        ensures stock { let t = table_of record_meaning range_meaning ops.now in
+            OnOk result (AsMeantBy t (E.view self.old.engine) (E.view self.new.engine) (λ g v w.
+            (x : Run) → IsLawful t g → IsKept t g v self.old.txns x
+            → serial.is_live x.so_far.live txn.0 ≡ true → BacksStock t g v w (is_behind txn.0 stop))) }
+        ensures failed { IfErr result (λ e. IsDiskFault e
+            → HasRisen (E.view self.old.engine).faults (E.view self.new.engine).faults) }
+        ensures log_end { IfErr result (IsNearEnd (E.view self.new.engine).tail) }
+        ensures later { (E.view self.old.engine).faults ≤ (E.view self.new.engine).faults }
+        ensures tail { (E.view self.old.engine).tail ≤ (E.view self.new.engine).tail }
+        ensures core { core_of self.new ≡ record (core_of self.old) { live = self.new.txns } }
+        ensures live { IsTrue (is_live self.new.txns txn.0) }
+        ensures quiet { OnOk result ((E.view self.new.engine).faults ≡ (E.view self.old.engine).faults) }
+        ensures accounts { AccountsFor IsDiskFault (E.view self.old.engine) (E.view self.new.engine) result }
+    {
+        let mut at = self.engine.tail();
+        'notes: loop {
+            match self.undo_one_to(ops, txn, stop, at) {
+                Ok(Some(after)) => {
+                    self.give_back(txn);
+                    at = after;
+                }
+                Ok(None) => return Ok(()),
+                Err(fault) => return Err(fault),
+            }
+        }
+    }
+
+    /// Takes back what the transaction did behind its mark with this number. It is still live, holds what it held,
+    /// and has its marks up to this one.
+    pub fn rollback_to(&mut self, ops: &Ops, txn: TxnId, mark: u16) -> Result<(), MarkRefused>
+        requires serves { Serves (table_of record_meaning range_meaning ops.now) self.old }
+        ensures serves { Serves (table_of record_meaning range_meaning ops.now) self.new }
+        // the transactions are as before, and so is what is durable
+        ensures rests { let t = table_of record_meaning range_meaning ops.now in
+            (live : List ℕ) (objects durable : Model) → Has t self.old live objects durable
+            → OnOk result (AskedBy t (E.view self.new.engine) (HasGoneBack live durable (core_of self.new) t)) }
+        ensures told { (E.view self.new.engine).Told → (E.view self.old.engine).Told }
+        ensures means { KeepsBy (table_of record_meaning range_meaning ops.now) (E.view self.old.engine) (E.view self.new.engine) }
+        ensures rolls_back { let t = table_of record_meaning range_meaning ops.now in
+            AsMeantBy t (E.view self.old.engine) (E.view self.new.engine) (λ g v w.
+            (x : Run) → IsLawful t g → Shows t g v (core_of self.old) x
+            → Goes t g v x (RollsBack w.tail v.faults w.faults txn.0 mark x result) w (core_of self.new)) }
+        // what the transaction did to the stock behind the mark is undone, but for the greatest sizes
+        ensures stock { let t = table_of record_meaning range_meaning ops.now in
+            OnOk result (AsMeantBy t (E.view self.old.engine) (E.view self.new.engine) (λ g v w.
+            (x : Run) → IsLawful t g → Shows t g v (core_of self.old) x
+            → (at : ℕ) → nth_mark mark (marks_of self.old.txns txn.0) ≡ Some at
+            → (r : RunStock) → ShowsStock t g v r → ShowsStock t g w (backed (is_behind txn.0 at) r))) }
+        // on any engine
+        ensures causes { RollsFor txn.0 mark (E.view self.old.engine) (E.view self.new.engine) (core_of self.old) (core_of self.new) result }
+        ensures asks { IfErr result (λ e. AsksNoMark e → self.new ≡ self.old) }
+        ensures heeds { Heeds self.old.stop self.new.stop (E.view self.old.engine) (E.view self.new.engine) }
+    {
+        if self.stop.is_some() {
+            return Err(MarkRefused::Store(Refused::Stopped));
+        }
+        if !self.txns.is_live(txn) {
+            return Err(MarkRefused::Store(Refused::NoTxn));
+        }
+        let Some(at) = self.txns.mark(txn, mark) else {
+            return Err(MarkRefused::NoMark);
+        };
+        match self.undo_to(ops, txn, at) {
+            Ok(()) => {
+                self.txns.cut_marks(txn, mark);
+                Ok(())
+            }
+            Err(fault) => Err(MarkRefused::Store(self.halt(fault))),
+        }
+    }
 }
 
 impl<E: Truncates> Store<E> {
-    ghost use Rattle.std.specs.Prelude.{OnOk, IfErr, None};
+    ghost use Rattle.std.specs.Prelude.{OnOk, IfErr, None, option_map, slice_get};
+    ghost use Rattle.sg_checkpoints.specs.Cutting.{IsCut};
+    ghost use Rattle.sg_core.specs.Live.{number_of};
     ghost use Rattle.sg_store.specs.Causes.{AsksNothing, FlushesFor};
     ghost use Rattle.sg_ops.specs.Table.{Table as Operations};
     ghost use Rattle.sg_run.specs.Run.{Run};
@@ -902,7 +1156,9 @@ impl<E: Truncates> Store<E> {
     ghost use Rattle.sg_store.specs.Seen.{core_of, Serves, IsServed};
     ghost use Rattle.sg_store.specs.Heeds.{Heeds};
 
-    /// Cuts off of the log what isn't wanted any more.
+    /// Cuts off of the log what isn't wanted any more: it begins then with the frame that holds the least of the
+    /// changes that aren't home, the begin of the live transaction that began first, and the last checkpoint.
+    /// Without a checkpoint nothing is cut. The objects, the transactions and what each image stands for stay.
     pub fn truncate(&mut self) -> Result<(), Refused>
         requires serves { IsServed self.old }
         ensures serves { (t : Operations) → Serves t self.old → Serves t self.new }
@@ -913,6 +1169,9 @@ impl<E: Truncates> Store<E> {
         ensures truncates { AsMeant (E.view self.old.engine) (E.view self.new.engine) (λ t g v w.
             (x : Run) → IsLawful t g → Shows t g v (core_of self.old) x
             → Goes t g v x (Flushes v.faults w.faults x result) w (core_of self.new)) }
+        // where the log begins now, which is the byte from which `log_bytes` counts
+        ensures cuts { OnOk result ((E.view self.old.engine).Told → IsCut (E.unwritten self.old.engine) (option_map number_of (slice_get self.old.txns 0)) (E.last_checkpoint self.old.engine) (E.is_spent self.old.engine)
+            (E.view self.old.engine).start (E.view self.new.engine).start (E.first_frame_end self.new.engine)) }
         ensures stock { self.new.stop ≡ None → AsMeant (E.view self.old.engine) (E.view self.new.engine) (λ t g v w.
             (x : Run) → IsLawful t g → Shows t g v (core_of self.old) x → LeavesStock t g v w) }
         // on any engine

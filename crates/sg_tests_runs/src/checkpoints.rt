@@ -1,4 +1,4 @@
-// Checkpoints: what a script leaves of its log, and what is shown where its end is cut off.
+// Checkpoints and truncations: what a script leaves of its log, and what is shown where a run is stopped.
 use crate::trial::{copy_of, done, new_store, run, run_stopped};
 use sg_base::MemSink;
 use sg_disk::MemDisk;
@@ -8,7 +8,7 @@ use std::alloc::Global;
 
 // Scripts over a new store, what they are answered, and the listing of the log that they leave: its area, its first byte and
 // its last one, and each record's number, kind, transaction, previous record and length.
-const ROWS: [(&str, &str, &str); 5] = [
+const ROWS: [(&str, &str, &str); 6] = [
     // the end of a run makes a checkpoint
     ("", "", "log 0 0 36\n5 checkpoint 0 0 31\n"),
     // in the frame of the records that waited
@@ -27,6 +27,12 @@ const ROWS: [(&str, &str, &str); 5] = [
     (
         "t begin\nflush\ncheckpoint\nt abort",
         "ok\nok\nok\nok\n",
+        "log 0 0 135\n5 begin 5 0 21\n31 checkpoint 0 0 47\n83 end 5 5 21\n104 checkpoint 0 0 31\n",
+    ),
+    // nothing is cut where a transaction goes on that began in the log's first frame
+    (
+        "t begin\nflush\ncheckpoint\ntruncate\nt abort",
+        "ok\nok\nok\nok\nok\n",
         "log 0 0 135\n5 begin 5 0 21\n31 checkpoint 0 0 47\n83 end 5 5 21\n104 checkpoint 0 0 31\n",
     ),
     // by the word alone
@@ -70,6 +76,27 @@ fn first_wrong(alloc: Global) -> Option<usize> {
 #[test]
 fn logs_end_with_a_checkpoint(rt: HostRuntime) {
     assert_eq!(rt; first_wrong(rt.alloc()), None);
+}
+
+// The log that a truncation leaves where no transaction goes on and all is home: it begins with the frame of the last checkpoint, in the
+// other area.
+const CUT: &str = "log 1 78 171\n83 end 5 5 21\n104 checkpoint 0 0 31\n140 checkpoint 0 0 31\n";
+
+// Whether the log of the row before is cut so by a run with one line.
+fn cut_goes(alloc: Global) -> Option<bool> {
+    let disk = done(
+        alloc,
+        new_store(alloc)?,
+        b"t begin\nflush\ncheckpoint\nt abort",
+        b"ok\nok\nok\nok\n",
+    )?;
+    let cut = done(alloc, disk, b"truncate", b"ok\n")?;
+    Some(lists(alloc, cut, CUT))
+}
+
+#[test]
+fn a_log_is_cut_at_the_frame_of_its_last_checkpoint(rt: HostRuntime) {
+    assert_eq!(rt; cut_goes(rt.alloc()), Some(true));
 }
 
 // The bytes of a log that has a checkpoint alone, up to the closed gate behind it: the gate and the length of the frame, and the
@@ -178,4 +205,32 @@ fn a_loser_is_taken_back_from_a_checkpoint_on(rt: HostRuntime) {
     let alloc = rt.alloc();
     assert!(rt; cut_off_shows(alloc));
     assert_eq!(rt; first_wrong_of_stops(alloc), None);
+}
+
+// A store whose log can be cut: an item, all home, and a checkpoint behind it.
+const PUSHED: &[u8] = b"p begin\np make array a 3\np push a abc\np commit\nflush\ncheckpoint";
+
+// Whether the item is shown where a run that truncates is stopped after so many calls.
+fn cut_shows(alloc: Global, disk: &MemDisk, calls: u64) -> bool {
+    match copy_of(alloc, disk).and_then(|copy| run_stopped(alloc, copy, b"truncate", calls)) {
+        Some(left) => shows(alloc, left.disk.crash(calls.saturating_mul(0x9e37_79b9))),
+        None => false,
+    }
+}
+
+// The first number of calls that goes otherwise, up to the number that a whole run makes.
+fn first_wrong_of_cuts(alloc: Global) -> Option<u64> {
+    let left = run(alloc, new_store(alloc)?, PUSHED)?;
+    let calls = calls_of(alloc, &left.disk, b"truncate")?;
+    for n in 0..calls.min(300) {
+        if !cut_shows(alloc, &left.disk, n) {
+            return Some(n);
+        }
+    }
+    None
+}
+
+#[test]
+fn a_truncation_that_is_stopped_leaves_the_objects(rt: HostRuntime) {
+    assert_eq!(rt; first_wrong_of_cuts(rt.alloc()), None);
 }

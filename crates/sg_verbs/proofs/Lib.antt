@@ -15,3 +15,4 @@ pub mod Done
 pub mod Freed
 pub mod Backed
 pub mod PutBack
+pub mod Told

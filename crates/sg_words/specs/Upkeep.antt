@@ -4,14 +4,15 @@ use Rattle.std.specs.Str.{bytes_eq}
 use Rattle.std.specs.Str.Lines.{strip_carriage_return}
 use Rattle.sg_words.specs.Parse.{words_of, most_line_bytes}
 use Rattle.sg_words.specs.declared.upkeep.Upkeep.{Upkeep}
-use Rattle.sg_words.specs.declared.upkeep.Upkeep.TheVariants.{Flush, Checkpoint}
+use Rattle.sg_words.specs.declared.upkeep.Upkeep.TheVariants.{Flush, Checkpoint, Truncate}
 
 -- what a word asks of the store as a whole, if anything
 unfoldable pub upkeep_word : List ℕ → Option Upkeep
 upkeep_word word =
     if bytes_eq word (codes "flush") then Some Flush
     else (if bytes_eq word (codes "checkpoint") then Some Checkpoint
-    else None)
+    else (if bytes_eq word (codes "truncate") then Some Truncate
+    else None))
 
 -- it is said by one word alone
 abbrev pub upkeep_in : List (List ℕ) → Option Upkeep

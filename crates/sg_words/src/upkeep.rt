@@ -11,6 +11,8 @@ pub enum Upkeep {
     Flush,
     /// To make the log durable, with a record of where its redo has to begin.
     Checkpoint,
+    /// To cut off of the log what isn't wanted any more.
+    Truncate,
 }
 
 // What a word asks of the store as a whole.
@@ -22,13 +24,15 @@ fn upkeep_word(word: &[u8]) -> Option<Upkeep>
         Some(Upkeep::Flush)
     } else if word == b"checkpoint".as_slice() {
         Some(Upkeep::Checkpoint)
+    } else if word == b"truncate".as_slice() {
+        Some(Upkeep::Truncate)
     } else {
         None
     }
 }
 
-/// What a line without its LF asks of the store as a whole: one that is the word `flush` or `checkpoint`
-/// alone. Such a line is no request of a transaction.
+/// What a line without its LF asks of the store as a whole: one that is the word `flush`, `checkpoint` or
+/// `truncate` alone. Such a line is no request of a transaction.
 #[tactic(auto, unfolding(crate::specs::Upkeep::upkeep_of))]
 pub fn parse_upkeep(text: &[u8]) -> Option<Upkeep>
     ensures { result ≡ upkeep_of text.now }

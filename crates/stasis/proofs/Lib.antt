@@ -1,3 +1,5 @@
 pub mod Tables
 pub mod Telling
 pub mod Opening
+pub mod Settling
+pub mod Closed

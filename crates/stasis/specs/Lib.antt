@@ -10,6 +10,7 @@ pub use Rattle.sg_model.specs.SaidOps
 pub use Rattle.sg_model.specs.SaidReplies
 pub use Rattle.sg_model.specs.Step
 pub use Rattle.sg_model.specs.Verb
+pub use Rattle.sg_model.specs.declared.op.Reply
 pub use Rattle.sg_mount.specs.Making
 pub use Rattle.sg_mount.specs.Opening
 pub use Rattle.sg_ops.specs.Meaning

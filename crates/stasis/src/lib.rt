@@ -2,13 +2,13 @@
 //!
 //! It stands on `sg_mount`, which makes and opens a store over any disk, on `sg_store`, whose calls are what is done with one, and on
 //! `sg_folder`, which is the disk that keeps it. It promises what these promise. In its own words it adds what is known of a store over a disk
-//! that tells its contents (`TellsObjects`), from its opening on (`open_store`) and behind the end of a transaction (`end_transaction`), and what
-//! operations on a table come to (`tables_are_maps`).
+//! that tells its contents (`TellsObjects`), from its opening on (`open_store`), behind each call of a transaction (`begin_transaction`,
+//! `perform_operation`, `end_transaction`) and at its close (`close_store`), and what operations on a table come to (`tables_are_maps`); and one error
+//! with words for each refusal (`StoreError`).
 //!
 //! The order of use: register operations (`Ops::shipped`, `register_record`), make a store once (`init_store`), open it (`open_store`), and
-//! then, as often as wanted, begin a transaction (`Store::begin`), do operations in it (`perform`, `keys`, `list`), and commit it or
-//! take it back (`end_transaction`, or `commit` and `abort`). A store isn't dropped: `Store::close` writes all home and hands the engine back, and
-//! `into_acts`, `into_engine` and `into_disk` of that, one behind another, the disk.
+//! then, as often as wanted, begin a transaction (`begin_transaction`), do operations in it (`perform_operation`, `keys`, `list`), and commit it or
+//! take it back (`end_transaction`). A store isn't dropped: `close_store` writes all home and hands its disk back.
 //!
 //! **An operation of an application's own** changes an item of an array in place, and other transactions may be live meanwhile. It
 //! implements `RecordOp`: its code, its meaning as a definition (`record_meaning`: which items and arguments it accepts, what it leaves
@@ -19,11 +19,17 @@
 //! `sg_ops` are whole ones.
 #![tactic(auto)]
 
+mod calls;
+mod closing;
+mod error;
 mod laws;
 mod silent;
 mod store;
 mod transaction;
 
+pub use calls::{begin_transaction, perform_operation};
+pub use closing::{close_store, crash_leaves_durable};
+pub use error::StoreError;
 pub use laws::tables_are_maps;
 pub use sg_base::{Area, Failed, Name, OutOfMemory, TxnId};
 pub use sg_bucket::Bytes;

@@ -14,8 +14,9 @@ use Rattle.sg_attach.specs.Attached.{unfinished_of}
 use Rattle.sg_attach.proofs.Ending.{end_shown}
 use Rattle.sg_attach.proofs.Known.{attach_known}
 use Rattle.sg_attach.proofs.Undamaged.{attach_undamaged}
-use Rattle.sg_attach.proofs.Analysed.{log_formed, log_losers, log_unfinished}
-use Rattle.sg_attach.proofs.Attached.{attach_some, attach_stands, attach_steps, attach_durable, attach_base, attach_based, attach_below, attach_pages, attach_bands, attach_moments, attach_refused, below_prop, nat_set, waits_empty}
+use Rattle.sg_gate.specs.declared.superblock.Super.{Super}
+use Rattle.sg_attach.proofs.Analysed.{accepted_super, log_formed, log_last, log_losers, log_unfinished}
+use Rattle.sg_attach.proofs.Attached.{attach_some, attach_stands, attach_steps, attach_durable, attach_based, attach_below, attach_pages, attach_bands, attach_moments, attach_refused, below_prop, nat_set, waits_empty}
 use Rattle.sg_attach.proofs.attaching.attach.Goals as goal
 
 -- what was opened isn't refused
@@ -34,33 +35,41 @@ new-pages-requires-clause-some g c =
     let l = c.of_parts-engine.ensures.log in
     let p = c.of_parts-engine.ensures.pool in
     rw f (rw d (rw l (rw p (attach_some g.D.Disk.told _ (g.D.Disk.view c.args.disk) (g.D.Disk.view c.open.new.disk) c.in-Ok.field-0.log c.in-Ok.field-0.pool c.in-Ok.ensures.opens c.in-Ok.ensures.allowed c.laws.ensures
+    c.in-Ok.field-0.geometry c.in-Ok.field-0.analysis.last_checkpoint (λ told. accepted_super _ _ _ (c.in-Ok.ensures.accepted told)) (λ told. log_last _ _ c.in-Ok.field-0.geometry c.in-Ok.field-0.analysis (c.in-Ok.ensures.accepted told) (c.in-Ok.ensures.analysed told))
     g.D.Presumed.presumed (λ told presumed. c.requires.found told presumed c.in-Ok.field-0.geometry (c.in-Ok.ensures.accepted told))))))
 
 pub returns-in-Ok-clause-means : goal.returns-in-Ok-clause-means
 returns-in-Ok-clause-means g c from durable log is m =
     let e = c.new-pages.ensures.engine in
     let s = c.new-pages.ensures.found in
+    let b = c.new-pages.ensures.superblock in
+    let k = c.new-pages.ensures.checkpoint in
+    let u = c.new-pages.ensures.uncut in
     let f = c.of-found.ensures in
     let d = c.of_parts-engine.ensures.disk in
     let l = c.of_parts-engine.ensures.log in
     let p = c.of_parts-engine.ensures.pool in
-    rw e (rw s (rw f (rw d (rw l (rw p (attach_stands g.D.Disk.told _ (g.D.Disk.view c.args.disk) (g.D.Disk.view c.open.new.disk) c.in-Ok.field-0.log c.in-Ok.field-0.pool c.in-Ok.ensures.opens c.in-Ok.ensures.allowed c.laws.ensures g.D.Presumed.presumed c.new-pages.result.failed from durable log (λ told. m)))))))
+    rw e (rw s (rw b (rw k (rw u (rw f (rw d (rw l (rw p (attach_stands g.D.Disk.told _ (g.D.Disk.view c.args.disk) (g.D.Disk.view c.open.new.disk) c.in-Ok.field-0.log c.in-Ok.field-0.pool c.in-Ok.ensures.opens c.in-Ok.ensures.allowed c.laws.ensures
+    c.in-Ok.field-0.geometry c.in-Ok.field-0.analysis.last_checkpoint (λ told. accepted_super _ _ _ (c.in-Ok.ensures.accepted told)) (λ told. log_last _ _ c.in-Ok.field-0.geometry c.in-Ok.field-0.analysis (c.in-Ok.ensures.accepted told) (c.in-Ok.ensures.analysed told))
+    g.D.Presumed.presumed c.new-pages.result.failed from durable log (λ told. m))))))))))
 
 pub returns-in-Ok-clause-steps : goal.returns-in-Ok-clause-steps
 returns-in-Ok-clause-steps g c is presumed =
     let e = c.new-pages.ensures.engine in
     let d = c.of_parts-engine.ensures.disk in
     let l = c.of_parts-engine.ensures.log in
-    rw e (rw d (rw l (∥∥₁_elim (c.requires.found is presumed c.in-Ok.field-0.geometry (c.in-Ok.ensures.accepted is)) (steps_set _ _)
-    (λ k. attach_steps g.D.Disk.told _ (g.D.Disk.view c.args.disk) (g.D.Disk.view c.open.new.disk) c.in-Ok.field-0.log c.in-Ok.field-0.pool c.in-Ok.ensures.opens k.0 k.1 k.2 is k.3))))
+    let u = c.new-pages.ensures.uncut in
+    rw u (rw e (rw d (rw l (∥∥₁_elim (c.requires.found is presumed c.in-Ok.field-0.geometry (c.in-Ok.ensures.accepted is)) (steps_set _ _)
+    (λ k. attach_steps g.D.Disk.told _ (g.D.Disk.view c.args.disk) (g.D.Disk.view c.open.new.disk) c.in-Ok.field-0.log c.in-Ok.field-0.pool c.in-Ok.ensures.opens k.0 k.1 k.2 is k.3)))))
 
 pub returns-in-Ok-clause-durable : goal.returns-in-Ok-clause-durable
 returns-in-Ok-clause-durable g c is presumed =
     let e = c.new-pages.ensures.engine in
     let d = c.of_parts-engine.ensures.disk in
     let l = c.of_parts-engine.ensures.log in
-    rw e (rw d (rw l (∥∥₁_elim (c.requires.found is presumed c.in-Ok.field-0.geometry (c.in-Ok.ensures.accepted is)) (steps_set _ _)
-    (λ k. attach_durable g.D.Disk.told _ (g.D.Disk.view c.args.disk) (g.D.Disk.view c.open.new.disk) c.in-Ok.field-0.log c.in-Ok.field-0.pool c.in-Ok.ensures.opens k.0 k.1 k.2 is k.3))))
+    let u = c.new-pages.ensures.uncut in
+    rw u (rw e (rw d (rw l (∥∥₁_elim (c.requires.found is presumed c.in-Ok.field-0.geometry (c.in-Ok.ensures.accepted is)) (steps_set _ _)
+    (λ k. attach_durable g.D.Disk.told _ (g.D.Disk.view c.args.disk) (g.D.Disk.view c.open.new.disk) c.in-Ok.field-0.log c.in-Ok.field-0.pool c.in-Ok.ensures.opens k.0 k.1 k.2 is k.3)))))
 
 pub returns-in-Ok-clause-base : goal.returns-in-Ok-clause-base
 returns-in-Ok-clause-base g c = (let s = c.new-pages.ensures.found in let f = c.of-found.ensures in rw s (rw f refl))
@@ -97,12 +106,10 @@ returns-in-Ok-clause-below g c is presumed =
 
 pub returns-in-Ok-clause-first_byte : goal.returns-in-Ok-clause-first_byte
 returns-in-Ok-clause-first_byte g c is presumed =
-    let e = c.new-pages.ensures.engine in
     let s = c.new-pages.ensures.found in
     let f = c.of-found.ensures in
-    let l = c.of_parts-engine.ensures.log in
-    rw e (rw s (rw f (rw l (∥∥₁_elim (c.requires.found is presumed c.in-Ok.field-0.geometry (c.in-Ok.ensures.accepted is)) (nat_set _ _)
-    (λ k. attach_base g.D.Disk.told _ (g.D.Disk.view c.args.disk) (g.D.Disk.view c.open.new.disk) c.in-Ok.field-0.log c.in-Ok.field-0.pool c.in-Ok.ensures.opens k.0 k.1 k.2 is k.3)))))
+    let b = c.new-pages.ensures.superblock in
+    rw s (rw f (rw b (ap (λ (x : Super). x.base) (accepted_super _ _ _ (c.in-Ok.ensures.accepted is)))))
 
 pub returns-in-Ok-clause-based : goal.returns-in-Ok-clause-based
 returns-in-Ok-clause-based g c is presumed =

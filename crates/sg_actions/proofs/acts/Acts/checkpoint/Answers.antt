@@ -1,7 +1,10 @@
 use Rattle.sg_actions.specs.Growing.{moments_same, grows_same, moments_then}
 use Rattle.std.proofs.lemmas.Result.{on_ok_weaker}
-use Rattle.std.proofs.Common.{◌≡◌, ◌*◌, refl, ap, subst, ◌∙◌, length, take, arith}
+use Rattle.std.proofs.Common.{◌≡◌, ◌*◌, ℕ, List, refl, ap, subst, ◌∙◌, length, take, min, length-take, IsPermutation, arith}
+use Rattle.std.proofs.lemmas.List.{take_min}
+use Rattle.std.specs.List.Sorted.{IsNonDecreasingBy}
 use Rattle.sg_actions.specs.Checkpoints.{rows_bytes}
+use Rattle.sg_actions.specs.declared.rows.Row.{Row}
 use Rattle.sg_actions.specs.Engine.{Moments, led}
 use Rattle.sg_actions.specs.Steps.{Steps}
 use Rattle.sg_actions.proofs.Accounting.{within_by}
@@ -17,7 +20,7 @@ use Rattle.sg_actions.proofs.acts.Acts.checkpoint.Goals as goal
 
 pub checkpoint-requires-clause-rows : goal.checkpoint-requires-clause-rows
 checkpoint-requires-clause-rows g c =
-    let rows = take c.min-count.result c.as_slice.result.now in
+    let rows = take c.min-count.result c.in_order-ordered.result in
     let is : take c.in-Some.size c.spell_rows.new.into ≡ rows_bytes rows = spelled_is c.spell_rows.result c.in-Some.size c.spell_rows.new.into rows rows c.in-Some.is c.spell_rows.ensures.spelled refl in
     let sized = rows_sized rows in
     let long : length (take c.in-Some.size c.spell_rows.new.into) ≡ 16 * sized.many = ap length is ∙ sized.is in
@@ -25,9 +28,9 @@ checkpoint-requires-clause-rows g c =
 
 pub returns-in_default-clause-counts : goal.returns-in_default-clause-counts
 returns-in_default-clause-counts g c =
-    let rows = take c.min-count.result c.as_slice.result.now in
+    let rows = take c.min-count.result c.in_order-ordered.result in
     looked_break c.count_break.result c.count_break.ensures.answer (looked_none (g.E.Engine.view c.args.self.now.engine) c.args.self.now.breaks) c.count_break.ensures.risen c.count_break.ensures.later
-    (λ told. rows_fit rows rows refl (let short = take_short c.min-count.result c.as_slice.result.now in let m = c.min-count.ensures in omega (arith, short, m)) c.in_default.ensures.many)
+    (λ told. rows_fit rows rows refl (let short = take_short c.min-count.result c.in_order-ordered.result in let m = c.min-count.ensures in omega (arith, short, m)) c.in_default.ensures.many)
 
 pub returns-in_default-clause-moments : goal.returns-in_default-clause-moments
 returns-in_default-clause-moments g c = λ t from m told. moments_same (led from (g.E.Engine.view c.args.self.now.engine)) (g.met.E.Engine.images _ t from m told)
@@ -54,8 +57,8 @@ invariant_of-self-2-clause-unbroken g c = λ told. c.args.self.now.unbroken (c.c
 
 pub invariant_of-self-clause-unbroken : goal.invariant_of-self-clause-unbroken
 invariant_of-self-clause-unbroken g c = λ told.
-    let rows = take c.min-count.result c.as_slice.result.now in
-    absurd (rows_fit rows rows refl (let short = take_short c.min-count.result c.as_slice.result.now in let m = c.min-count.ensures in omega (arith, short, m)) c.in_default.ensures.many)
+    let rows = take c.min-count.result c.in_order-ordered.result in
+    absurd (rows_fit rows rows refl (let short = take_short c.min-count.result c.in_order-ordered.result in let m = c.min-count.ensures in omega (arith, short, m)) c.in_default.ensures.many)
 
 pub returns-clause-kept : goal.returns-clause-kept
 returns-clause-kept g c = λ limits t from m.
@@ -89,3 +92,23 @@ returns-clause-marks g c =
       ends = record { lsn = c.in_ok-checkpoint.field-0; estimate = m.estimate; appended = k.grows.placed.above; still = stays (k.grows.counts.tells told) c.in_ok-checkpoint.field-0 m.estimate m.last };
       estimates = m.estimates;
     })) c.force.ensures.marked
+
+pub returns-clause-names : goal.returns-clause-names
+returns-clause-names g c =
+    let items = c.args.self.now.rows.items in
+    let n = c.min-count.result in
+    let rows = take n c.in_order-ordered.result in
+    let least : n ≡ min 64 (length items) = (let m = c.min-count.ensures in omega (arith, m)) in
+    let slice = c.as_slice.result.now in
+    let is_all : slice ≡ items = c.as_slice.ensures.value in
+    let front : take n slice ≡ take 64 items = ap (λ (xs : List Row). take n xs) is_all ∙ (ap (λ (k : ℕ). take k items) least ∙ take_min 64 items) in
+    let long : length (take n slice) ≡ n = ap (λ (xs : List Row). length (take n xs)) is_all ∙ (let l = length-take n items in omega (arith, l, least)) in
+    let is : take c.in-Some.size c.spell_rows.new.into ≡ rows_bytes rows = spelled_is c.spell_rows.result c.in-Some.size c.spell_rows.new.into rows rows c.in-Some.is c.spell_rows.ensures.spelled refl in
+    let k = c.in_ok-checkpoint.ensures in
+    let ordered = c.in_order-ordered.ensures in
+    on_ok_weaker c.force.result (λ keeps told. (record {
+      ordered = rows;
+      same = subst (λ (xs : List Row). IsPermutation xs rows) front (subst (λ (m : ℕ). IsPermutation (take n slice) (take m c.in_order-ordered.result)) long ordered.same);
+      rising = subst (λ (m : ℕ). IsNonDecreasingBy (λ r. r.txn.0) (take m c.in_order-ordered.result)) long ordered.rising;
+      named = keeps (k.grows.counts.tells told) _ (subst (g.E.Engine.names _) is (k.names told));
+    })) c.force.ensures.names

@@ -6,11 +6,13 @@ use Rattle.sg_actions.specs.Engine.{led}
 use Rattle.sg_actions.specs.Growing.{moments_same}
 use Rattle.sg_actions.specs.Rows.{last_in}
 use Rattle.sg_actions.specs.Steps.{Steps, step_at}
+use Rattle.sg_recovery.specs.Log.{tally, is_in}
 use Rattle.sg_actions.specs.Undoing.{SeesAt}
 use Rattle.sg_actions.specs.declared.rows.Row.{Row}
 use Rattle.sg_actions.specs.declared.undo.Seen.{Seen}
 use Rattle.sg_actions.specs.declared.undo.Seen.TheVariants as seen
 use Rattle.sg_actions.proofs.Counting.{looked_none, looked_then, looked_break, look_moments, by_none, by_then, stayed_then, never_any}
+use Rattle.sg_actions.proofs.Wanted.{kept_live}
 use Rattle.sg_actions.proofs.Finding.{is_there, walk_begins, walk_goes, walk_finds, walk_over}
 use Rattle.sg_actions.proofs.acts.Acts.find_note.Goals as goal
 
@@ -46,7 +48,16 @@ walk-preserved g c =
 pub look_back-requires : goal.look_back-requires
 look_back-requires g c =
     let i = c.walk.invariant in
-    record { there = λ told1. let told = i.run.told told1 in ∥∥₁_elim (g.met.E.Engine.some c.args.self.now.engine told) (hlevel props) (λ x. some_is (ap (λ (rs : Steps). step_at rs c.walk.at) ((i.by x.0 x.1 x.2).stays.stays told).steps ∙ (is_there c.walk.at (c.requires told) (i.walks x.0 x.1 x.2 told) c.walk-test.true).there)) }
+    record {
+      there = λ told1. let told = i.run.told told1 in ∥∥₁_elim (g.met.E.Engine.some c.args.self.now.engine told) (hlevel props) (λ x. some_is (ap (λ (rs : Steps). step_at rs c.walk.at) ((i.by x.0 x.1 x.2).stays.stays told).steps ∙ (is_there c.walk.at (c.requires told) (i.walks x.0 x.1 x.2 told) c.walk-test.true).there));
+      kept = λ told1.
+          let told = i.run.told told1 in
+          let u = c.requires told in
+          let within = u.within in
+          let behind = c.walk-test.true in
+          ∥∥₁_elim (g.met.E.Engine.some c.args.self.now.engine told) (hlevel props) (λ x.
+          kept_live c.args.txn.0 c.walk.at (g.met.E.Engine.wanted _ told1) (ap (λ (rs : Steps). is_in c.args.txn.0 (tally rs).live) ((i.by x.0 x.1 x.2).stays.stays told).steps ∙ u.live) (omega (arith, within, behind)));
+    }
 
 pub returns-in-Note-clause-finds : goal.returns-in-Note-clause-finds
 returns-in-Note-clause-finds g c = λ t from m told. let i = c.walk.invariant in walk_finds c.walk.at c.in-Note.prev c.in-Note.undo_next c.look_back.new.into (c.requires told) (i.walks t from m told) c.walk-test.true (subst (λ (rs : Steps). SeesAt rs c.walk.at c.look_back.new.into (seen.Note c.in-Note.prev c.in-Note.undo_next)) ((i.by t from m).stays.stays told).steps (subst (λ (s : Seen). SeesAt (g.E.Engine.view c.walk.self.engine).steps c.walk.at c.look_back.new.into s) c.in-Note.is (c.in_ok-prev.ensures.saw t from (i.means t from m) (i.run.tells told))))

@@ -1,5 +1,6 @@
 use mathlib.Core.Logic.{∥∥₁_elim}
-use Rattle.std.proofs.Common.{false, ◌≡◌, subst, ◌∙◌, refl, List, Some, length}
+use Rattle.std.proofs.Common.{false, ◌≡◌, sym, ap, subst, ◌∙◌, refl, List, Some, length, arith}
+use Rattle.std.proofs.Props.{props}
 use Rattle.sg_alloc.specs.Flags.{map_bands_of}
 use Rattle.sg_alloc.specs.declared.maps.Maps.{Maps}
 use Rattle.std.proofs.lemmas.Result.{err_from_is_err_and}
@@ -11,6 +12,7 @@ use Rattle.sg_actions.specs.Steps.{step_at}
 use Rattle.sg_actions.specs.Undoing.{Hop, hop_in, given_by}
 use Rattle.sg_actions.specs.declared.rows.Row.{Row}
 use Rattle.sg_actions.proofs.PuttingBack.{goes_same, goes_then, way_begins, way_on, way_ends, next_hop, hop_prop, run_none, run_by, run_then, run_ok, run_err, err_is}
+use Rattle.sg_actions.proofs.Wanted.{kept_live, way_above}
 use Rattle.sg_actions.proofs.acts.Acts.put_back.Goals as goal
 
 pub back-init : goal.back-init
@@ -34,6 +36,20 @@ put_one_back-requires-clause-hop g c = λ told1.
     ∥∥₁_elim (g.met.E.Engine.some c.args.self.now.engine told) (hop_prop c.back.at _) (λ x.
     let chain = (i.goes x.0 x.1 x.2).chain told can.chain in
     next_hop (map_bands_of (length c.args.self.now.maps.pages) (length c.args.self.now.maps.bands)) x.0 (led x.1 (g.E.Engine.view c.args.self.now.engine)) (led x.1 (g.E.Engine.view c.back.self.engine)) c.args.self.now.actor.txn.0 c.args.to c.back.at _ c.back-test.true (i.way x.0 x.1 x.2 told can.chain can.way.hops can.way.leads) chain.running.log.chained))
+
+pub put_one_back-requires-clause-kept : goal.put_one_back-requires-clause-kept
+put_one_back-requires-clause-kept g c = λ told1.
+    let i = c.back.invariant in
+    let told = i.run.told told1 in
+    let own = c.requires.own told in
+    ∥∥₁_elim (c.requires.can told) (hlevel props) (λ can.
+    ∥∥₁_elim (g.met.E.Engine.some c.args.self.now.engine told) (hlevel props) (λ x.
+    let goes = i.goes x.0 x.1 x.2 in
+    let chain = goes.chain told can.chain in
+    let who : c.back.self.actor.txn.0 ≡ c.args.self.now.actor.txn.0 = ap (λ (t : TxnId). t.0) goes.who in
+    let above = way_above (map_bands_of (length c.args.self.now.maps.pages) (length c.args.self.now.maps.bands)) x.0 (led x.1 (g.E.Engine.view c.args.self.now.engine)) (led x.1 (g.E.Engine.view c.back.self.engine)) c.args.self.now.actor.txn.0 c.args.to c.back.at _ c.back-test.true (i.way x.0 x.1 x.2 told can.chain can.way.hops can.way.leads) in
+    let first = own.1 in
+    kept_live c.back.self.actor.txn.0 c.back.at (g.met.E.Engine.wanted _ told1) (chain.running.acting (λ zero. own.0 (sym who ∙ zero))) (omega (arith, who, first, above))))
 
 pub put_one_back-requires-clause-begun : goal.put_one_back-requires-clause-begun
 put_one_back-requires-clause-begun g c = c.back.invariant.begun ∙ c.requires.begun

@@ -18,10 +18,16 @@ use Rattle.sg_actions.proofs.Ranged.{comp_in, brief_off}
 use Rattle.sg_record.specs.Changes.{Change as Changing}
 use Rattle.sg_actions.specs.Changes.{comp_of}
 use Rattle.sg_actions.proofs.GoingOn.{can_rest}
+use Rattle.sg_actions.proofs.Wanted.{kept_open}
 use Rattle.sg_actions.proofs.acts.Acts.take_one_off.Goals as goal
 
 pub read-requires-clause-there : goal.read-requires-clause-there
 read-requires-clause-there g c = λ told. ∥∥₁_elim (c.requires.off told) (hlevel props) (λ x. some_is (next_one _ x.2.kept x.2.begin (led x.0 (g.E.Engine.view c.args.self.now.engine)) c.args.self.now.rows.items c.args.self.now.actor c.args.at x.2.more x.2.going).step)
+
+pub read-requires-clause-kept : goal.read-requires-clause-kept
+read-requires-clause-kept g c = λ told. ∥∥₁_elim (c.requires.off told) (hlevel props) (λ x.
+    let n = next_one _ x.2.kept x.2.begin (led x.0 (g.E.Engine.view c.args.self.now.engine)) c.args.self.now.rows.items c.args.self.now.actor c.args.at x.2.more x.2.going in
+    kept_open n.d n.ds c.args.at (g.met.E.Engine.wanted _ told) n.is n.here)
 
 pub log_by-requires-clause-by : goal.log_by-requires-clause-by
 log_by-requires-clause-by g c = λ told. ∥∥₁_elim (c.requires.by (c.in_ok-size.ensures.rests.counts.told told)) ∥∥₁_prop (λ x. ∣ (x.0, c.in_ok-size.ensures.means _ x.0 x.1) ∣₁)

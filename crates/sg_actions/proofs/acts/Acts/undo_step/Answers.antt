@@ -10,6 +10,8 @@ use Rattle.sg_actions.specs.Later.{acts_at}
 use Rattle.sg_actions.specs.Onward.{later_same}
 use Rattle.sg_actions.proofs.PuttingBack.{acts_at as acting_at, all_at, can_put, begun_those, begun_no, found_is, run_by, run_then, run_ok, run_err, err_is, counts_from, counts_at, undone_none, undone_run, can_act, actable_at}
 use Rattle.sg_actions.proofs.Sets.{steps_set}
+use Rattle.sg_actions.proofs.Wanted.{way_is_own}
+use Rattle.std.proofs.Props.{props}
 use Rattle.sg_actions.proofs.GoingOn.{chain_look}
 use Rattle.sg_actions.proofs.acts.Acts.undo_step.Goals as goal
 
@@ -26,6 +28,14 @@ put_back-requires-clause-can g c = λ told2.
     let told = k.counts.told (subst (λ y. (g.E.Engine.view y).Told) c.act.ensures.engine told2) in
     ∥∥₁_elim (g.met.E.Engine.some c.args.self.now.engine told) ∥∥₁_prop (λ x. ∣ can_put {t = x.0} {limits = (λ y n. 0)} {e = (led x.1 (g.E.Engine.view c.args.self.now.engine))} {e1 = (led x.1 (g.E.Engine.view c.find_note.new.self.engine))} {maps = c.args.self.now.maps} {actor = c.args.self.now.actor} {txn = c.args.txn.0} {stop = c.args.stop} {note = c.find_note.new.into} {f = c.in-Some.found}
     (ap (λ y. led x.1 (g.E.Engine.view y)) c.act.ensures.engine) (c.act.ensures.rows ∙ k.rows) c.requires (found_is (led x.1 (g.E.Engine.view c.args.self.now.engine)) c.in-Some.is (k.finds x.0 x.1 x.2)) (k.stays x.0 x.1 x.2) k.counts.told (acting_at k.maps k.rows k.actor (c.act.ensures.acts (λ y n. 0) x.0 x.1 (k.means x.0 x.1 x.2))) told2 ∣₁)
+
+pub put_back-requires-clause-own : goal.put_back-requires-clause-own
+put_back-requires-clause-own g c = λ told2.
+    let k = c.in_ok-found.ensures in
+    let told1 = subst (λ y. (g.E.Engine.view y).Told) c.act.ensures.engine told2 in
+    let told = k.counts.told told1 in
+    ∥∥₁_elim (g.met.E.Engine.some c.args.self.now.engine told) (hlevel props) (λ x.
+    way_is_own c.act.new.self.actor (c.requires told) (found_is (led x.1 (g.E.Engine.view c.args.self.now.engine)) c.in-Some.is (k.finds x.0 x.1 x.2) told) ((c.act.ensures.acts (λ y n. 0) x.0 x.1 (k.means x.0 x.1 x.2)).is told1))
 
 pub returns-in_err-put_back-clause-counts : goal.returns-in_err-put_back-clause-counts
 returns-in_err-put_back-clause-counts g c =

@@ -15,7 +15,7 @@ use Rattle.sg_phys.proofs.Seen.{forced_then, hands_none, keeps_broken, keeps_loo
 use Rattle.sg_phys.specs.Phys.{looked}
 use Rattle.sg_phys_laws.proofs.Handing.{hands_forced, none_waits}
 use Rattle.sg_phys_laws.proofs.Poised.{rested_forced}
-use Rattle.sg_pages.proofs.Marking.{forced_ends}
+use Rattle.sg_pages.proofs.Marking.{forced_ends, forced_names}
 use Rattle.sg_pages.proofs.engine.PhysEngine.force.Goals as goal
 
 pub returns-then-self-clause-rests : goal.returns-then-self-clause-rests
@@ -34,7 +34,7 @@ pub returns-in-Ok-clause-means : goal.returns-in-Ok-clause-means
 returns-in-Ok-clause-means g c = λ t from m. keeps_look (IsGiven g.D.Disk.told g.D.Presumed.presumed) (parts g.D.Disk.view c.args.self.now) (g.D.Disk.view c.force.new.self.disk) c.force.new.self.log c.force.new.self.pool t from m (λ o tells e. rested_forced o (g.D.Disk.view c.args.self.now.engine.disk) (g.D.Disk.view c.force.new.self.disk) c.args.self.now.engine.log c.force.new.self.log c.args.self.now.engine.pool c.force.new.self.pool _ _ (c.in-Ok.ensures.goes_on o _ _ tells.0 e) (λ k early. c.in-Ok.ensures.allowed o _ _ k tells.0 e early))
 
 pub invariant_of-self-in-Ok-clause-some : goal.invariant_of-self-in-Ok-clause-some
-invariant_of-self-in-Ok-clause-some g c = some_kept (IsGiven g.D.Disk.told g.D.Presumed.presumed) c.args.self.now.failed (g.D.Disk.view c.args.self.now.found.value) (g.D.Disk.view c.args.self.now.engine.disk) (g.D.Disk.view c.force.new.self.disk) c.args.self.now.engine.log c.force.new.self.log c.args.self.now.engine.pool c.force.new.self.pool (λ t from m. keeps_look (IsGiven g.D.Disk.told g.D.Presumed.presumed) (parts g.D.Disk.view c.args.self.now) (g.D.Disk.view c.force.new.self.disk) c.force.new.self.log c.force.new.self.pool t from m (λ o tells e. rested_forced o (g.D.Disk.view c.args.self.now.engine.disk) (g.D.Disk.view c.force.new.self.disk) c.args.self.now.engine.log c.force.new.self.log c.args.self.now.engine.pool c.force.new.self.pool _ _ (c.in-Ok.ensures.goes_on o _ _ tells.0 e) (λ k early. c.in-Ok.ensures.allowed o _ _ k tells.0 e early))) c.args.self.now.some
+invariant_of-self-in-Ok-clause-some g c = some_kept (IsGiven g.D.Disk.told g.D.Presumed.presumed) c.args.self.now.failed (parts g.D.Disk.view c.args.self.now).past (g.D.Disk.view c.args.self.now.engine.disk) (g.D.Disk.view c.force.new.self.disk) c.args.self.now.engine.log c.force.new.self.log c.args.self.now.engine.pool c.force.new.self.pool (λ t from m. keeps_look (IsGiven g.D.Disk.told g.D.Presumed.presumed) (parts g.D.Disk.view c.args.self.now) (g.D.Disk.view c.force.new.self.disk) c.force.new.self.log c.force.new.self.pool t from m (λ o tells e. rested_forced o (g.D.Disk.view c.args.self.now.engine.disk) (g.D.Disk.view c.force.new.self.disk) c.args.self.now.engine.log c.force.new.self.log c.args.self.now.engine.pool c.force.new.self.pool _ _ (c.in-Ok.ensures.goes_on o _ _ tells.0 e) (λ k early. c.in-Ok.ensures.allowed o _ _ k tells.0 e early))) c.args.self.now.some
 
 pub returns-in-Ok-clause-rests : goal.returns-in-Ok-clause-rests
 returns-in-Ok-clause-rests g c = rests_ok (IsGiven g.D.Disk.told g.D.Presumed.presumed) (parts g.D.Disk.view c.args.self.now) (g.D.Disk.view c.force.new.self.disk) c.force.new.self.log c.force.new.self.pool {S = Unit {0}} _ tt c.max-self.result _ (c.args.self.now.gates c.if-self.false) c.durable-self.ensures (record { later = c.force.ensures.later; heeded = c.in-Ok.ensures.heeded; hands = c.force.ensures.grown; size = ap sizes c.force.ensures.pool }) c.if-self.false (let e = c.args.self.now.ends c.if-self.false in let n = c.max-self.ensures ∙ ap (λ (k : ℕ). max k 1) c.tail.ensures in let k = ap tail_of c.in-Ok.ensures.log ∙ tail_forced c.args.self.now.engine.log in omega (arith, e, n, k))
@@ -55,7 +55,7 @@ pub returns-in-Err-clause-means : goal.returns-in-Err-clause-means
 returns-in-Err-clause-means g c = λ t from m. keeps_broken (IsGiven g.D.Disk.told g.D.Presumed.presumed) (parts g.D.Disk.view c.args.self.now) (g.D.Disk.view c.force.new.self.disk) c.force.new.self.log c.force.new.self.pool t from m
 
 pub invariant_of-self-in-Err-clause-some : goal.invariant_of-self-in-Err-clause-some
-invariant_of-self-in-Err-clause-some g c = some_broken (IsGiven g.D.Disk.told g.D.Presumed.presumed) (g.D.Disk.view c.args.self.now.found.value) (g.D.Disk.view c.force.new.self.disk) c.force.new.self.log c.force.new.self.pool
+invariant_of-self-in-Err-clause-some g c = some_broken (IsGiven g.D.Disk.told g.D.Presumed.presumed) (parts g.D.Disk.view c.args.self.now).past (g.D.Disk.view c.force.new.self.disk) c.force.new.self.log c.force.new.self.pool
 
 pub returns-then-self-clause-hands : goal.returns-then-self-clause-hands
 returns-then-self-clause-hands g c = hands_none _ _ _ _ _
@@ -72,3 +72,7 @@ returns-in-Err-clause-hands g c = record { most = (hands_forced {T = Unit {0}} {
 pub returns-in-Ok-clause-marked : goal.returns-in-Ok-clause-marked
 returns-in-Ok-clause-marked g c = forced_ends (IsGiven g.D.Disk.told g.D.Presumed.presumed) (parts g.D.Disk.view c.args.self.now) (g.D.Disk.view c.force.new.self.disk) c.force.new.self.log c.force.new.self.pool c.args.self.now.some
     (λ o ds ps given e. c.in-Ok.ensures.goes_on o ds ps given.0 e) (λ o ds ps k given e early. c.in-Ok.ensures.allowed o ds ps k given.0 e early)
+
+pub returns-in-Ok-clause-names : goal.returns-in-Ok-clause-names
+returns-in-Ok-clause-names g c = forced_names (IsGiven g.D.Disk.told g.D.Presumed.presumed) (parts g.D.Disk.view c.args.self.now) (g.D.Disk.view c.force.new.self.disk) c.force.new.self.log c.force.new.self.pool c.args.self.now.some
+    (λ o ds ps given e. c.in-Ok.ensures.goes_on o ds ps given.0 e)

@@ -36,7 +36,7 @@ pub returns-then-is_no_step-clause-means : goal.returns-then-is_no_step-clause-m
 returns-then-is_no_step-clause-means g c = λ from m. keeps_broken (IsGiven g.D.Disk.told g.D.Presumed.presumed) (parts g.D.Disk.view c.args.self.now) (g.D.Disk.view c.args.self.now.engine.disk) c.args.self.now.engine.log c.args.self.now.engine.pool _ from m
 
 pub invariant_of-self-then-is_no_step-clause-some : goal.invariant_of-self-then-is_no_step-clause-some
-invariant_of-self-then-is_no_step-clause-some g c = some_broken (IsGiven g.D.Disk.told g.D.Presumed.presumed) (g.D.Disk.view c.args.self.now.found.value) (g.D.Disk.view c.args.self.now.engine.disk) c.args.self.now.engine.log c.args.self.now.engine.pool
+invariant_of-self-then-is_no_step-clause-some g c = some_broken (IsGiven g.D.Disk.told g.D.Presumed.presumed) (parts g.D.Disk.view c.args.self.now).past (g.D.Disk.view c.args.self.now.engine.disk) c.args.self.now.engine.log c.args.self.now.engine.pool
 
 pub invariant_of-self-in-Ok-clause-ends : goal.invariant_of-self-in-Ok-clause-ends
 invariant_of-self-in-Ok-clause-ends g c = λ whole. c.max-self.ensures ∙ ap (λ (n : ℕ). max n 1) c.tail.ensures
@@ -45,7 +45,7 @@ pub returns-in-Ok-clause-means : goal.returns-in-Ok-clause-means
 returns-in-Ok-clause-means g c = λ from m. keeps_record (IsGiven g.D.Disk.told g.D.Presumed.presumed) (parts g.D.Disk.view c.args.self.now) (g.D.Disk.view c.log_record.new.engine.disk) c.log_record.new.engine.log c.log_record.new.engine.pool _ from m (shown c.args.r.now) c.log_record.new.tried c.in-Ok.lsn (sym c.is_no_step.ensures ∙ c.if-is_no_step.false) (formed_by (IsGiven g.D.Disk.told g.D.Presumed.presumed) (parts g.D.Disk.view c.args.self.now) _ _ (shown c.args.r.now) c.log_record.new.tried c.if-self.false c.requires.can (let e = c.args.self.now.ends c.if-self.false in let a = c.log_record.ensures.above in omega (arith, e, a)) (λ e. c.log_record.ensures.place (ap changed_by e) ∙ (place_by c.args.self.now.engine.log (shown c.args.r.now) ∙ ap (λ s. place_of c.args.self.now.engine.log (by 0 0 s)) e))) (λ tells p. c.in-Ok.ensures.runs _ _ _ _ tells.0 (asked (IsGiven g.D.Disk.told g.D.Presumed.presumed) (parts g.D.Disk.view c.args.self.now) _ _ from _ (shown c.args.r.now) c.if-self.false (λ same. refl) c.requires.can m tells p)) (λ tells p. c.in-Ok.ensures.logs _ _ _ _ tells.0 (asked (IsGiven g.D.Disk.told g.D.Presumed.presumed) (parts g.D.Disk.view c.args.self.now) _ _ from _ (shown c.args.r.now) c.if-self.false (λ same. refl) c.requires.can m tells p))
 
 pub invariant_of-self-in-Ok-clause-some : goal.invariant_of-self-in-Ok-clause-some
-invariant_of-self-in-Ok-clause-some g c = some_kept_by (IsGiven g.D.Disk.told g.D.Presumed.presumed) c.args.self.now.failed (g.D.Disk.view c.args.self.now.found.value) (g.D.Disk.view c.args.self.now.engine.disk) (g.D.Disk.view c.log_record.new.engine.disk) c.args.self.now.engine.log c.log_record.new.engine.log c.args.self.now.engine.pool c.log_record.new.engine.pool _ (λ from m. keeps_record (IsGiven g.D.Disk.told g.D.Presumed.presumed) (parts g.D.Disk.view c.args.self.now) (g.D.Disk.view c.log_record.new.engine.disk) c.log_record.new.engine.log c.log_record.new.engine.pool _ from m (shown c.args.r.now) c.log_record.new.tried c.in-Ok.lsn (sym c.is_no_step.ensures ∙ c.if-is_no_step.false) (formed_by (IsGiven g.D.Disk.told g.D.Presumed.presumed) (parts g.D.Disk.view c.args.self.now) _ _ (shown c.args.r.now) c.log_record.new.tried c.if-self.false c.requires.can (let e = c.args.self.now.ends c.if-self.false in let a = c.log_record.ensures.above in omega (arith, e, a)) (λ e. c.log_record.ensures.place (ap changed_by e) ∙ (place_by c.args.self.now.engine.log (shown c.args.r.now) ∙ ap (λ s. place_of c.args.self.now.engine.log (by 0 0 s)) e))) (λ tells p. c.in-Ok.ensures.runs _ _ _ _ tells.0 (asked (IsGiven g.D.Disk.told g.D.Presumed.presumed) (parts g.D.Disk.view c.args.self.now) _ _ from _ (shown c.args.r.now) c.if-self.false (λ same. refl) c.requires.can m tells p)) (λ tells p. c.in-Ok.ensures.logs _ _ _ _ tells.0 (asked (IsGiven g.D.Disk.told g.D.Presumed.presumed) (parts g.D.Disk.view c.args.self.now) _ _ from _ (shown c.args.r.now) c.if-self.false (λ same. refl) c.requires.can m tells p))) c.requires.by
+invariant_of-self-in-Ok-clause-some g c = some_kept_by (IsGiven g.D.Disk.told g.D.Presumed.presumed) c.args.self.now.failed (parts g.D.Disk.view c.args.self.now).past (g.D.Disk.view c.args.self.now.engine.disk) (g.D.Disk.view c.log_record.new.engine.disk) c.args.self.now.engine.log c.log_record.new.engine.log c.args.self.now.engine.pool c.log_record.new.engine.pool _ (λ from m. keeps_record (IsGiven g.D.Disk.told g.D.Presumed.presumed) (parts g.D.Disk.view c.args.self.now) (g.D.Disk.view c.log_record.new.engine.disk) c.log_record.new.engine.log c.log_record.new.engine.pool _ from m (shown c.args.r.now) c.log_record.new.tried c.in-Ok.lsn (sym c.is_no_step.ensures ∙ c.if-is_no_step.false) (formed_by (IsGiven g.D.Disk.told g.D.Presumed.presumed) (parts g.D.Disk.view c.args.self.now) _ _ (shown c.args.r.now) c.log_record.new.tried c.if-self.false c.requires.can (let e = c.args.self.now.ends c.if-self.false in let a = c.log_record.ensures.above in omega (arith, e, a)) (λ e. c.log_record.ensures.place (ap changed_by e) ∙ (place_by c.args.self.now.engine.log (shown c.args.r.now) ∙ ap (λ s. place_of c.args.self.now.engine.log (by 0 0 s)) e))) (λ tells p. c.in-Ok.ensures.runs _ _ _ _ tells.0 (asked (IsGiven g.D.Disk.told g.D.Presumed.presumed) (parts g.D.Disk.view c.args.self.now) _ _ from _ (shown c.args.r.now) c.if-self.false (λ same. refl) c.requires.can m tells p)) (λ tells p. c.in-Ok.ensures.logs _ _ _ _ tells.0 (asked (IsGiven g.D.Disk.told g.D.Presumed.presumed) (parts g.D.Disk.view c.args.self.now) _ _ from _ (shown c.args.r.now) c.if-self.false (λ same. refl) c.requires.can m tells p))) c.requires.by
 
 pub returns-in-Ok-clause-logs : goal.returns-in-Ok-clause-logs
 returns-in-Ok-clause-logs g c = λ from m. logs_ok (IsGiven g.D.Disk.told g.D.Presumed.presumed) (parts g.D.Disk.view c.args.self.now) (g.D.Disk.view c.log_record.new.engine.disk) c.log_record.new.engine.log c.log_record.new.engine.pool _ from m (shown c.args.r.now) c.log_record.new.tried c.in-Ok.lsn c.max-self.result _ _ c.in-Ok.ensures.number (let e = c.args.self.now.ends c.if-self.false in let a = c.log_record.ensures.above in omega (arith, e, a)) (sym c.is_no_step.ensures ∙ c.if-is_no_step.false) (formed_by (IsGiven g.D.Disk.told g.D.Presumed.presumed) (parts g.D.Disk.view c.args.self.now) _ _ (shown c.args.r.now) c.log_record.new.tried c.if-self.false c.requires.can (let e = c.args.self.now.ends c.if-self.false in let a = c.log_record.ensures.above in omega (arith, e, a)) (λ e. c.log_record.ensures.place (ap changed_by e) ∙ (place_by c.args.self.now.engine.log (shown c.args.r.now) ∙ ap (λ s. place_of c.args.self.now.engine.log (by 0 0 s)) e))) (λ tells p. c.in-Ok.ensures.runs _ _ _ _ tells.0 (asked (IsGiven g.D.Disk.told g.D.Presumed.presumed) (parts g.D.Disk.view c.args.self.now) _ _ from _ (shown c.args.r.now) c.if-self.false (λ same. refl) c.requires.can m tells p)) (λ tells p. c.in-Ok.ensures.logs _ _ _ _ tells.0 (asked (IsGiven g.D.Disk.told g.D.Presumed.presumed) (parts g.D.Disk.view c.args.self.now) _ _ from _ (shown c.args.r.now) c.if-self.false (λ same. refl) c.requires.can m tells p))
@@ -63,4 +63,4 @@ pub returns-in-Err-clause-means : goal.returns-in-Err-clause-means
 returns-in-Err-clause-means g c = λ from m. keeps_broken (IsGiven g.D.Disk.told g.D.Presumed.presumed) (parts g.D.Disk.view c.args.self.now) (g.D.Disk.view c.log_record.new.engine.disk) c.log_record.new.engine.log c.log_record.new.engine.pool _ from m
 
 pub invariant_of-self-in-Err-clause-some : goal.invariant_of-self-in-Err-clause-some
-invariant_of-self-in-Err-clause-some g c = some_broken (IsGiven g.D.Disk.told g.D.Presumed.presumed) (g.D.Disk.view c.args.self.now.found.value) (g.D.Disk.view c.log_record.new.engine.disk) c.log_record.new.engine.log c.log_record.new.engine.pool
+invariant_of-self-in-Err-clause-some g c = some_broken (IsGiven g.D.Disk.told g.D.Presumed.presumed) (parts g.D.Disk.view c.args.self.now).past (g.D.Disk.view c.log_record.new.engine.disk) c.log_record.new.engine.log c.log_record.new.engine.pool

@@ -40,7 +40,7 @@ pub returns-in-Err-clause-means : goal.returns-in-Err-clause-means
 returns-in-Err-clause-means g c = λ t from m. keeps_broken (IsGiven g.D.Disk.told g.D.Presumed.presumed) (parts g.D.Disk.view c.args.self.now) (g.D.Disk.view c.load_page.new.self.disk) c.load_page.new.self.log c.load_page.new.self.pool t from m
 
 pub invariant_of-self-in-Err-clause-some : goal.invariant_of-self-in-Err-clause-some
-invariant_of-self-in-Err-clause-some g c = some_broken (IsGiven g.D.Disk.told g.D.Presumed.presumed) (g.D.Disk.view c.args.self.now.found.value) (g.D.Disk.view c.load_page.new.self.disk) c.load_page.new.self.log c.load_page.new.self.pool
+invariant_of-self-in-Err-clause-some g c = some_broken (IsGiven g.D.Disk.told g.D.Presumed.presumed) (parts g.D.Disk.view c.args.self.now).past (g.D.Disk.view c.load_page.new.self.disk) c.load_page.new.self.log c.load_page.new.self.pool
 
 pub page-requires-clause-page : goal.page-requires-clause-page
 page-requires-clause-page g c = subst (λ (n : Geometry). c.args.p.0 < n.pages) (sym c.load_page.ensures.size) (omega (arith, c.if-p-pages.false, c.pages.ensures))
@@ -52,7 +52,7 @@ pub returns-clause-means : goal.returns-clause-means
 returns-clause-means g c = λ t from m. keeps_look (IsGiven g.D.Disk.told g.D.Presumed.presumed) (parts g.D.Disk.view c.args.self.now) (g.D.Disk.view c.load_page.new.self.disk) c.load_page.new.self.log c.load_page.new.self.pool t from m (λ o tells e. record { gone = c.in-Ok.ensures.goes_on o _ _ tells.0 e; allowed = λ k early. c.in-Ok.ensures.allowed o _ _ k tells.0 e early })
 
 pub invariant_of-self-2-clause-some : goal.invariant_of-self-2-clause-some
-invariant_of-self-2-clause-some g c = some_kept (IsGiven g.D.Disk.told g.D.Presumed.presumed) c.args.self.now.failed (g.D.Disk.view c.args.self.now.found.value) (g.D.Disk.view c.args.self.now.engine.disk) (g.D.Disk.view c.load_page.new.self.disk) c.args.self.now.engine.log c.load_page.new.self.log c.args.self.now.engine.pool c.load_page.new.self.pool (λ t from m. keeps_look (IsGiven g.D.Disk.told g.D.Presumed.presumed) (parts g.D.Disk.view c.args.self.now) (g.D.Disk.view c.load_page.new.self.disk) c.load_page.new.self.log c.load_page.new.self.pool t from m (λ o tells e. record { gone = c.in-Ok.ensures.goes_on o _ _ tells.0 e; allowed = λ k early. c.in-Ok.ensures.allowed o _ _ k tells.0 e early })) c.args.self.now.some
+invariant_of-self-2-clause-some g c = some_kept (IsGiven g.D.Disk.told g.D.Presumed.presumed) c.args.self.now.failed (parts g.D.Disk.view c.args.self.now).past (g.D.Disk.view c.args.self.now.engine.disk) (g.D.Disk.view c.load_page.new.self.disk) c.args.self.now.engine.log c.load_page.new.self.log c.args.self.now.engine.pool c.load_page.new.self.pool (λ t from m. keeps_look (IsGiven g.D.Disk.told g.D.Presumed.presumed) (parts g.D.Disk.view c.args.self.now) (g.D.Disk.view c.load_page.new.self.disk) c.load_page.new.self.log c.load_page.new.self.pool t from m (λ o tells e. record { gone = c.in-Ok.ensures.goes_on o _ _ tells.0 e; allowed = λ k early. c.in-Ok.ensures.allowed o _ _ k tells.0 e early })) c.args.self.now.some
 
 pub returns-clause-rests : goal.returns-clause-rests
 returns-clause-rests g c = rests_ok (IsGiven g.D.Disk.told g.D.Presumed.presumed) (parts g.D.Disk.view c.args.self.now) (g.D.Disk.view c.load_page.new.self.disk) c.load_page.new.self.log c.load_page.new.self.pool {S = Unit {0}} _ tt c.max-self.result _ (c.args.self.now.gates c.if-self.false) c.durable-self.ensures (record { later = c.load_page.ensures.later; heeded = c.in-Ok.ensures.heeded; hands = c.load_page.ensures.grown; size = c.load_page.ensures.size }) c.if-self.false (let e = c.args.self.now.ends c.if-self.false in let n = c.max-self.ensures ∙ ap (λ (k : ℕ). max k 1) c.tail.ensures in let k = kept_tail c.args.self.now.engine.log c.load_page.new.self.log c.in-Ok.ensures.log_kept in omega (arith, e, n, k))

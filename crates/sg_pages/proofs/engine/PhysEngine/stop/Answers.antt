@@ -11,4 +11,4 @@ pub returns-clause-means : goal.returns-clause-means
 returns-clause-means g c = λ t from m. keeps_broken (IsGiven g.D.Disk.told g.D.Presumed.presumed) (parts g.D.Disk.view c.args.self.now) (g.D.Disk.view c.args.self.now.engine.disk) c.args.self.now.engine.log c.args.self.now.engine.pool t from m
 
 pub invariant_of-self-clause-some : goal.invariant_of-self-clause-some
-invariant_of-self-clause-some g c = some_broken (IsGiven g.D.Disk.told g.D.Presumed.presumed) (g.D.Disk.view c.args.self.now.found.value) (g.D.Disk.view c.args.self.now.engine.disk) c.args.self.now.engine.log c.args.self.now.engine.pool
+invariant_of-self-clause-some g c = some_broken (IsGiven g.D.Disk.told g.D.Presumed.presumed) (parts g.D.Disk.view c.args.self.now).past (g.D.Disk.view c.args.self.now.engine.disk) c.args.self.now.engine.log c.args.self.now.engine.pool

@@ -14,13 +14,13 @@ use Rattle.sg_actions.specs.Handing.{HandsOver}
 use Rattle.sg_phys_laws.specs.Waiting.{waiting_of}
 use Rattle.sg_pages.specs.Marks.{LogEnds}
 use Rattle.sg_pages.specs.Parts.{parts}
-use Rattle.sg_phys.proofs.Images.{by_table}
-use Rattle.sg_phys.proofs.Seen.{grows_err, grows_ok, grows_stopped, hands_none, keeps_broken, looks_err, looks_stopped, none_made, some_broken, some_kept, HasLoggedIt}
-use Rattle.sg_phys.specs.Phys.{StandsBy, Tells, seen_of}
+use Rattle.sg_phys.proofs.Images.{by_past}
+use Rattle.sg_phys.proofs.Seen.{grows_err, grows_ok, grows_stopped, hands_none, keeps_broken, looks_err, looks_stopped, none_made, some_broken, some_past, HasLoggedIt}
+use Rattle.sg_phys.specs.Phys.{StandsBy, Tells}
 use Rattle.sg_phys_laws.proofs.Checkpoints.{checkpoint_long}
-use Rattle.sg_pages.proofs.Marking.{place_same, estimate_low, keeps_checkpoint, checkpoint_looks, checkpoint_fails, log_ends, low_prop}
+use Rattle.sg_pages.proofs.Marking.{place_same, estimate_low, keeps_checkpoint, checkpoint_looks, checkpoint_fails, log_ends, log_names, low_prop}
 use Rattle.sg_record.specs.Shown.{by}
-use Rattle.std.specs.Prelude.{Err}
+use Rattle.std.specs.Prelude.{Err, Some}
 use Rattle.sg_record.specs.Records.Says.{Checkpoint}
 use Rattle.sg_space.specs.declared.space.SpaceFault.TheVariants as space
 use Rattle.sg_engine.specs.declared.fault.EngineFault.TheVariants as engine
@@ -36,7 +36,7 @@ pub returns-then-self-clause-means : goal.returns-then-self-clause-means
 returns-then-self-clause-means g c = λ t from m. m
 
 pub returns-then-at-estimate-clause-grows : goal.returns-then-at-estimate-clause-grows
-returns-then-at-estimate-clause-grows g c = grows_err (IsGiven g.D.Disk.told g.D.Presumed.presumed) (parts g.D.Disk.view c.args.self.now) (g.D.Disk.view c.args.self.now.engine.disk) c.args.self.now.engine.log c.args.self.now.engine.pool {S = ℕ} (by 0 0 (Checkpoint 0 c.args.live.now)) engine.Disk space.Disk c.args.self.now.tried _ _ refl (not_full c.args.self.now.full c.args.self.now.failed c.args.self.now.ended c.if-self.false) (not_full c.args.self.now.full c.args.self.now.failed c.args.self.now.ended c.if-self.false) c.if-self.false (let b = c.saturating_add-self-then-at-estimate.ensures in search rules) (let b = c.saturating_add-self-then-at-estimate.ensures in search rules) (λ e. (let bad : ⊥ = cc in absurd bad)) (λ e. (let bad : ⊥ = cc in absurd bad)) (not_called (g.D.Disk.view c.args.self.now.engine.disk) c.args.self.now.engine.log c.args.self.now.engine.pool) (λ e tell. absurd (by_poised (IsGiven g.D.Disk.told g.D.Presumed.presumed) (parts g.D.Disk.view c.args.self.now) c.args.self.now.some low_prop (λ t from m q. (let n = c.place-at.ensures in let l = place_late c.args.self.now.engine.log (by 0 0 (Checkpoint 0 c.args.live.now)) in let low = estimate_low _ (g.D.Disk.view c.args.self.now.engine.disk) c.args.self.now.engine.log _ _ c.args.self.now.engine.pool c.place-at.result c.redo_from-estimate.result q.now.engine (omega (arith, n, l)) (c.redo_from-estimate.ensures tell) in let lt = c.if-at-estimate.true in omega (arith, low, lt))) tell))
+returns-then-at-estimate-clause-grows g c = grows_err (IsGiven g.D.Disk.told g.D.Presumed.presumed) (parts g.D.Disk.view c.args.self.now) (g.D.Disk.view c.args.self.now.engine.disk) c.args.self.now.engine.log c.args.self.now.engine.pool {S = ℕ} (by 0 0 (Checkpoint 0 c.args.live.now)) engine.Disk space.Disk c.args.self.now.tried _ _ refl (not_full c.args.self.now.full c.args.self.now.failed c.args.self.now.ended c.if-self.false) (not_full c.args.self.now.full c.args.self.now.failed c.args.self.now.ended c.if-self.false) c.if-self.false (let b = c.saturating_add-self-then-at-estimate.ensures in search rules) (let b = c.saturating_add-self-then-at-estimate.ensures in search rules) (λ e. (let bad : ⊥ = cc in absurd bad)) (λ e. (let bad : ⊥ = cc in absurd bad)) (not_called (g.D.Disk.view c.args.self.now.engine.disk) c.args.self.now.engine.log c.args.self.now.engine.pool) (λ e tell. absurd (by_poised (IsGiven g.D.Disk.told g.D.Presumed.presumed) (parts g.D.Disk.view c.args.self.now) c.args.self.now.some low_prop (λ t from m q. (let n = c.place-at.ensures in let l = place_late c.args.self.now.engine.log (by 0 0 (Checkpoint 0 c.args.live.now)) in let low = estimate_low _ (g.D.Disk.view c.args.self.now.engine.disk) c.args.self.now.engine.log _ _ c.args.self.now.engine.pool c.place-at.result c.redo_from-estimate.result q.poised.now.engine (omega (arith, n, l)) (c.redo_from-estimate.ensures tell) in let lt = c.if-at-estimate.true in omega (arith, low, lt))) tell))
 
 pub returns-then-at-estimate-clause-looks : goal.returns-then-at-estimate-clause-looks
 returns-then-at-estimate-clause-looks g c = λ t from m. looks_err (IsGiven g.D.Disk.told g.D.Presumed.presumed) (parts g.D.Disk.view c.args.self.now) (g.D.Disk.view c.args.self.now.engine.disk) c.args.self.now.engine.log c.args.self.now.engine.pool t from m _ (none_made (IsGiven g.D.Disk.told g.D.Presumed.presumed) (parts g.D.Disk.view c.args.self.now))
@@ -45,7 +45,7 @@ pub returns-then-at-estimate-clause-means : goal.returns-then-at-estimate-clause
 returns-then-at-estimate-clause-means g c = λ t from m. keeps_broken (IsGiven g.D.Disk.told g.D.Presumed.presumed) (parts g.D.Disk.view c.args.self.now) (g.D.Disk.view c.args.self.now.engine.disk) c.args.self.now.engine.log c.args.self.now.engine.pool t from m
 
 pub invariant_of-self-then-at-estimate-clause-some : goal.invariant_of-self-then-at-estimate-clause-some
-invariant_of-self-then-at-estimate-clause-some g c = some_broken (IsGiven g.D.Disk.told g.D.Presumed.presumed) (g.D.Disk.view c.args.self.now.found.value) (g.D.Disk.view c.args.self.now.engine.disk) c.args.self.now.engine.log c.args.self.now.engine.pool
+invariant_of-self-then-at-estimate-clause-some g c = some_broken (IsGiven g.D.Disk.told g.D.Presumed.presumed) (parts g.D.Disk.view c.args.self.now).past (g.D.Disk.view c.args.self.now.engine.disk) c.args.self.now.engine.log c.args.self.now.engine.pool
 
 pub invariant_of-self-in-Ok-clause-ends : goal.invariant_of-self-in-Ok-clause-ends
 invariant_of-self-in-Ok-clause-ends g c = λ whole. c.max-self.ensures ∙ ap (λ (n : ℕ). max n 1) c.tail.ensures
@@ -55,17 +55,17 @@ returns-in-Ok-clause-means g c = λ t from m.
     let same : c.log_plain.new.tried ≡ c.place-at.result = c.log_plain.ensures.place ∙ (place_same c.args.self.now.engine.log c.redo_from-estimate.result c.args.live.now ∙ sym c.place-at.ensures) in
     keeps_checkpoint (IsGiven g.D.Disk.told g.D.Presumed.presumed) (parts g.D.Disk.view c.args.self.now) (g.D.Disk.view c.log_plain.new.engine.disk) c.log_plain.new.engine.log c.log_plain.new.engine.pool c.args.live.now c.log_plain.new.tried c.redo_from-estimate.result t from m
     (λ tells whole. subst (λ (n : ℕ). Estimates (IsUnwritten c.args.self.now.engine.pool) n c.redo_from-estimate.result) (sym same) (c.redo_from-estimate.ensures (record { tells = tells; whole = whole }))) c.log_plain.ensures.pool (let a = c.log_plain.ensures.above in omega (arith, a)) c.in-Ok.ensures.below
-    (λ tells q. (c.in-Ok.ensures.runs t t _ _ _ tells.0 (record { phys = q.now; by = by_table t (seen_of (g.D.Disk.view c.args.self.now.found.value)); lawful = m.lawful; fits = tt; registered = refl })).allowed)
-    (λ tells q. c.in-Ok.ensures.logs t t _ _ _ tells.0 (record { phys = q.now; by = by_table t (seen_of (g.D.Disk.view c.args.self.now.found.value)); lawful = m.lawful; fits = tt; registered = refl }))
+    (λ tells q. (c.in-Ok.ensures.runs t t _ _ _ tells.0 (record { phys = q.poised.now; by = by_past t (parts g.D.Disk.view c.args.self.now).past; lawful = m.lawful; fits = tt; registered = refl })).allowed)
+    (λ tells q. c.in-Ok.ensures.logs t t _ _ _ tells.0 (record { phys = q.poised.now; by = by_past t (parts g.D.Disk.view c.args.self.now).past; lawful = m.lawful; fits = tt; registered = refl }))
 
 pub invariant_of-self-in-Ok-clause-some : goal.invariant_of-self-in-Ok-clause-some
 invariant_of-self-in-Ok-clause-some g c =
     let same : c.log_plain.new.tried ≡ c.place-at.result = c.log_plain.ensures.place ∙ (place_same c.args.self.now.engine.log c.redo_from-estimate.result c.args.live.now ∙ sym c.place-at.ensures) in
-    some_kept (IsGiven g.D.Disk.told g.D.Presumed.presumed) c.args.self.now.failed (g.D.Disk.view c.args.self.now.found.value) (g.D.Disk.view c.args.self.now.engine.disk) (g.D.Disk.view c.log_plain.new.engine.disk) c.args.self.now.engine.log c.log_plain.new.engine.log c.args.self.now.engine.pool c.log_plain.new.engine.pool
+    some_past (IsGiven g.D.Disk.told g.D.Presumed.presumed) c.args.self.now.failed (parts g.D.Disk.view c.args.self.now).past (record (parts g.D.Disk.view c.args.self.now).past { checkpoint = Some c.log_plain.new.tried }) (g.D.Disk.view c.args.self.now.engine.disk) (g.D.Disk.view c.log_plain.new.engine.disk) c.args.self.now.engine.log c.log_plain.new.engine.log c.args.self.now.engine.pool c.log_plain.new.engine.pool
     (λ t from m. keeps_checkpoint (IsGiven g.D.Disk.told g.D.Presumed.presumed) (parts g.D.Disk.view c.args.self.now) (g.D.Disk.view c.log_plain.new.engine.disk) c.log_plain.new.engine.log c.log_plain.new.engine.pool c.args.live.now c.log_plain.new.tried c.redo_from-estimate.result t from m
     (λ tells whole. subst (λ (n : ℕ). Estimates (IsUnwritten c.args.self.now.engine.pool) n c.redo_from-estimate.result) (sym same) (c.redo_from-estimate.ensures (record { tells = tells; whole = whole }))) c.log_plain.ensures.pool (let a = c.log_plain.ensures.above in omega (arith, a)) c.in-Ok.ensures.below
-    (λ tells q. (c.in-Ok.ensures.runs t t _ _ _ tells.0 (record { phys = q.now; by = by_table t (seen_of (g.D.Disk.view c.args.self.now.found.value)); lawful = m.lawful; fits = tt; registered = refl })).allowed)
-    (λ tells q. c.in-Ok.ensures.logs t t _ _ _ tells.0 (record { phys = q.now; by = by_table t (seen_of (g.D.Disk.view c.args.self.now.found.value)); lawful = m.lawful; fits = tt; registered = refl })))
+    (λ tells q. (c.in-Ok.ensures.runs t t _ _ _ tells.0 (record { phys = q.poised.now; by = by_past t (parts g.D.Disk.view c.args.self.now).past; lawful = m.lawful; fits = tt; registered = refl })).allowed)
+    (λ tells q. c.in-Ok.ensures.logs t t _ _ _ tells.0 (record { phys = q.poised.now; by = by_past t (parts g.D.Disk.view c.args.self.now).past; lawful = m.lawful; fits = tt; registered = refl })))
     c.args.self.now.some
 
 pub returns-in-Ok-clause-looks : goal.returns-in-Ok-clause-looks
@@ -73,8 +73,8 @@ returns-in-Ok-clause-looks g c = λ t from m.
     let same : c.log_plain.new.tried ≡ c.place-at.result = c.log_plain.ensures.place ∙ (place_same c.args.self.now.engine.log c.redo_from-estimate.result c.args.live.now ∙ sym c.place-at.ensures) in
     checkpoint_looks (IsGiven g.D.Disk.told g.D.Presumed.presumed) (parts g.D.Disk.view c.args.self.now) (g.D.Disk.view c.log_plain.new.engine.disk) c.log_plain.new.engine.log c.log_plain.new.engine.pool c.args.live.now c.log_plain.new.tried c.redo_from-estimate.result t from m
     (λ tells whole. subst (λ (n : ℕ). Estimates (IsUnwritten c.args.self.now.engine.pool) n c.redo_from-estimate.result) (sym same) (c.redo_from-estimate.ensures (record { tells = tells; whole = whole }))) c.log_plain.ensures.pool (let a = c.log_plain.ensures.above in omega (arith, a)) c.in-Ok.ensures.below
-    (λ tells q. (c.in-Ok.ensures.runs t t _ _ _ tells.0 (record { phys = q.now; by = by_table t (seen_of (g.D.Disk.view c.args.self.now.found.value)); lawful = m.lawful; fits = tt; registered = refl })).allowed)
-    (λ tells q. c.in-Ok.ensures.logs t t _ _ _ tells.0 (record { phys = q.now; by = by_table t (seen_of (g.D.Disk.view c.args.self.now.found.value)); lawful = m.lawful; fits = tt; registered = refl }))
+    (λ tells q. (c.in-Ok.ensures.runs t t _ _ _ tells.0 (record { phys = q.poised.now; by = by_past t (parts g.D.Disk.view c.args.self.now).past; lawful = m.lawful; fits = tt; registered = refl })).allowed)
+    (λ tells q. c.in-Ok.ensures.logs t t _ _ _ tells.0 (record { phys = q.poised.now; by = by_past t (parts g.D.Disk.view c.args.self.now).past; lawful = m.lawful; fits = tt; registered = refl }))
     _ c.max-self.result _ _
     (λ o tells e k early. c.log_plain.ensures.stood o _ _ k tells.0 e early)
 
@@ -92,7 +92,7 @@ pub returns-in-Err-clause-means : goal.returns-in-Err-clause-means
 returns-in-Err-clause-means g c = λ t from m. keeps_broken (IsGiven g.D.Disk.told g.D.Presumed.presumed) (parts g.D.Disk.view c.args.self.now) (g.D.Disk.view c.log_plain.new.engine.disk) c.log_plain.new.engine.log c.log_plain.new.engine.pool t from m
 
 pub invariant_of-self-in-Err-clause-some : goal.invariant_of-self-in-Err-clause-some
-invariant_of-self-in-Err-clause-some g c = some_broken (IsGiven g.D.Disk.told g.D.Presumed.presumed) (g.D.Disk.view c.args.self.now.found.value) (g.D.Disk.view c.log_plain.new.engine.disk) c.log_plain.new.engine.log c.log_plain.new.engine.pool
+invariant_of-self-in-Err-clause-some g c = some_broken (IsGiven g.D.Disk.told g.D.Presumed.presumed) (parts g.D.Disk.view c.args.self.now).past (g.D.Disk.view c.log_plain.new.engine.disk) c.log_plain.new.engine.log c.log_plain.new.engine.pool
 
 pub returns-then-self-clause-hands : goal.returns-then-self-clause-hands
 returns-then-self-clause-hands g c = hands_none _ _ _ _ _
@@ -117,6 +117,10 @@ returns-in-Ok-clause-marks g c = λ told.
       estimate = c.redo_from-estimate.result;
       last = subst (λ (n : ℕ). LogEnds (g.D.Disk.view c.log_plain.new.engine.disk) c.log_plain.new.engine.log n c.redo_from-estimate.result) (sym c.in-Ok.ensures.number)
           (log_ends (IsGiven g.D.Disk.told g.D.Presumed.presumed) (parts g.D.Disk.view c.args.self.now) (g.D.Disk.view c.log_plain.new.engine.disk) c.log_plain.new.engine.log c.log_plain.new.engine.pool c.args.live.now c.log_plain.new.tried c.redo_from-estimate.result c.args.self.now.some
-          (λ t from m tells q. c.in-Ok.ensures.logs t t _ _ _ tells.0 (record { phys = q.now; by = by_table t (seen_of (g.D.Disk.view c.args.self.now.found.value)); lawful = m.lawful; fits = tt; registered = refl })) told);
+          (λ t from m tells q. c.in-Ok.ensures.logs t t _ _ _ tells.0 (record { phys = q.poised.now; by = by_past t (parts g.D.Disk.view c.args.self.now).past; lawful = m.lawful; fits = tt; registered = refl })) told);
       estimates = subst (λ (n : ℕ). Estimates (IsUnwritten c.args.self.now.engine.pool) n c.redo_from-estimate.result) (sym (c.in-Ok.ensures.number ∙ same)) (c.redo_from-estimate.ensures told);
     }
+
+pub returns-in-Ok-clause-names : goal.returns-in-Ok-clause-names
+returns-in-Ok-clause-names g c = λ told. log_names (IsGiven g.D.Disk.told g.D.Presumed.presumed) (parts g.D.Disk.view c.args.self.now) (g.D.Disk.view c.log_plain.new.engine.disk) c.log_plain.new.engine.log c.log_plain.new.engine.pool c.args.live.now c.log_plain.new.tried c.redo_from-estimate.result c.args.self.now.some
+    (λ t from m tells q. c.in-Ok.ensures.logs t t _ _ _ tells.0 (record { phys = q.poised.now; by = by_past t (parts g.D.Disk.view c.args.self.now).past; lawful = m.lawful; fits = tt; registered = refl })) told

@@ -1,5 +1,7 @@
 use Rattle.std.proofs.Common.{refl, sym, ap, subst, ◌∙◌}
-use Rattle.std.specs.Prelude.{is_some}
+use Rattle.std.specs.Prelude.{is_some, option_map, slice_get}
+use Rattle.sg_checkpoints.specs.Cutting.{IsCut}
+use Rattle.sg_core.specs.Live.{number_of}
 use Rattle.sg_model.specs.SaidOps.{said_op}
 use Rattle.sg_model.specs.Verb.Op.{On, Names}
 use Rattle.sg_model.specs.Verb.Verb.{Keys}
@@ -13,7 +15,7 @@ use Rattle.sg_session.specs.Goes.{when_stopped}
 use Rattle.sg_store.proofs.Heeding as heeding
 use Rattle.sg_session.proofs.Steps as steps
 use Rattle.sg_session.proofs.Answering as answering
-use Rattle.sg_session.specs.KeptUp.{IsKeptUp}
+use Rattle.sg_session.specs.KeptUp.{IsKeptUp, IfTruncates}
 use Rattle.sg_session.specs.Lines.{Line, line_of}
 use Rattle.sg_session.specs.Lines.Line.{OfStore, Other}
 use Rattle.sg_session.proofs.Causing as causing
@@ -183,3 +185,42 @@ returns-then-is_some-clause-kept_up g c none = heeding.not_stopped c.args.self.n
 
 pub returns-else-is_some-clause-kept_up : goal.returns-else-is_some-clause-kept_up
 returns-else-is_some-clause-kept_up g c none = subst (λ (l : Line). IsKeptUp g.E.Engine l c.args.self.now.store.engine c.keep_up.new.self.store.engine) (answering.line_is c.args.text.now Wrong _ (sym c.in-Wrong.ensures.asked) (sym c.in-Some.ensures)) (c.keep_up.ensures.kept_up none)
+
+pub returns-in-Blank-clause-cuts : goal.returns-in-Blank-clause-cuts
+returns-in-Blank-clause-cuts g c none = answering.other_cuts _ _ _ (answering.is_blank c.args.text.now (sym c.in-Blank.ensures.asked))
+
+pub returns-in_default-clause-cuts : goal.returns-in_default-clause-cuts
+returns-in_default-clause-cuts g c none = answering.other_cuts _ _ _ (answering.line_is c.args.text.now Wrong _ (sym c.in-Wrong.ensures.asked) (sym c.in_default.ensures))
+
+pub returns-then-is_some-2-clause-cuts : goal.returns-then-is_some-2-clause-cuts
+returns-then-is_some-2-clause-cuts g c none = answering.other_cuts _ _ _ (answering.is_of c.args.text.now c.in-Of.name _ (sym c.in-Of.ensures.asked))
+
+pub returns-in-Begin-clause-cuts : goal.returns-in-Begin-clause-cuts
+returns-in-Begin-clause-cuts g c none = answering.other_cuts _ _ _ (answering.is_of c.args.text.now c.in-Of.name Begin (sym c.in-Of.ensures.asked ∙ ap (λ (r : code_request.Request). Of c.in-Of.name (shown r)) c.in-Begin.is))
+
+pub returns-in-Commit-clause-cuts : goal.returns-in-Commit-clause-cuts
+returns-in-Commit-clause-cuts g c none = answering.other_cuts _ _ _ (answering.is_of c.args.text.now c.in-Of.name Commit (sym c.in-Of.ensures.asked ∙ ap (λ (r : code_request.Request). Of c.in-Of.name (shown r)) c.in-Commit.is))
+
+pub returns-in-Abort-clause-cuts : goal.returns-in-Abort-clause-cuts
+returns-in-Abort-clause-cuts g c none = answering.other_cuts _ _ _ (answering.is_of c.args.text.now c.in-Of.name Abort (sym c.in-Of.ensures.asked ∙ ap (λ (r : code_request.Request). Of c.in-Of.name (shown r)) c.in-Abort.is))
+
+pub returns-in-Do-clause-cuts : goal.returns-in-Do-clause-cuts
+returns-in-Do-clause-cuts g c none = answering.other_cuts _ _ _ (answering.is_of c.args.text.now c.in-Of.name (Do (said_op c.in-Do.op)) (sym c.in-Of.ensures.asked ∙ ap (λ (r : code_request.Request). Of c.in-Of.name (shown r)) c.in-Do.is))
+
+pub returns-in-Keys-clause-cuts : goal.returns-in-Keys-clause-cuts
+returns-in-Keys-clause-cuts g c none = answering.other_cuts _ _ _ (answering.is_of c.args.text.now c.in-Of.name (Do (On c.in-Keys.table Keys)) (sym c.in-Of.ensures.asked ∙ ap (λ (r : code_request.Request). Of c.in-Of.name (shown r)) c.in-Keys.is))
+
+pub returns-in-List-clause-cuts : goal.returns-in-List-clause-cuts
+returns-in-List-clause-cuts g c none = answering.other_cuts _ _ _ (answering.is_of c.args.text.now c.in-Of.name (Do Names) (sym c.in-Of.ensures.asked ∙ ap (λ (r : code_request.Request). Of c.in-Of.name (shown r)) c.in-List.is))
+
+pub returns-then-is_some-clause-cuts : goal.returns-then-is_some-clause-cuts
+returns-then-is_some-clause-cuts g c none = heeding.not_stopped c.args.self.now.store.stop (ap is_some none) (ap is_some (sym c.stop.ensures) ∙ (sym c.is_some.ensures ∙ c.if-is_some.true))
+
+pub returns-else-is_some-clause-cuts : goal.returns-else-is_some-clause-cuts
+returns-else-is_some-clause-cuts g c none =
+    let old = c.args.self.now.store in
+    let new = c.keep_up.new.self.store in
+    subst
+    (λ (l : Line). IfTruncates l ((g.E.Engine.view old.engine).Told → IsCut (g.E.Engine.unwritten old.engine) (option_map number_of (slice_get old.txns 0)) (g.E.Truncates.last_checkpoint old.engine) (g.E.Truncates.is_spent old.engine)
+    (g.E.Engine.view old.engine).start (g.E.Engine.view new.engine).start (g.E.Truncates.first_frame_end new.engine)))
+    (answering.line_is c.args.text.now Wrong _ (sym c.in-Wrong.ensures.asked) (sym c.in-Some.ensures)) (c.keep_up.ensures.cuts none)

@@ -7,58 +7,62 @@ use Rattle.sg_store.proofs.Taking as taking
 use Rattle.sg_store.proofs.Undone as undone
 use Rattle.sg_store.proofs.store.Store.undo_one.Given as given
 use Rattle.sg_store.proofs.Accounting as accounting
-use Rattle.sg_store.proofs.Stocked.{backs_none}
+use Rattle.sg_recovery.proofs.Basic.{same_number}
+use Rattle.sg_store.specs.Room.{is_of}
+use Rattle.sg_store.proofs.Stocked.{backs_none, steps_left}
 use Rattle.sg_store.proofs.store.Store.undo_one.Goals as goal
 
 pub returns-in-Ok-None-clause-stays : goal.returns-in-Ok-None-clause-stays
 returns-in-Ok-None-clause-stays g c z from m told x lawful k live =
     let t = table_of (λ y. (given.RecordOp-dyn g y).record_meaning y.1) (λ y. (given.RangeOp-dyn g y).range_meaning y.1) c.args.ops.now in
-    undone.step_stays t (g.E.Engine.basis z) lawful (led t z from (g.E.Engine.view c.args.self.now.engine)) c.args.self.now.txns x c.args.txn.0 c.args.at k live (led t z from (g.E.Engine.view c.undo_step.new.self)) (c.undo_step.ensures.some t z from m told (undone.begun t (g.E.Engine.basis z) lawful (led t z from (g.E.Engine.view c.args.self.now.engine)) c.args.self.now.txns x c.args.txn.0 c.args.at k live) k.engine k.idle refl).0
+    undone.step_stays t (g.E.Engine.basis z) lawful (led t z from (g.E.Engine.view c.args.self.now.engine)) c.args.self.now.txns x c.args.txn.0 0 c.args.at k live (led t z from (g.E.Engine.view c.undo_step.new.self)) (c.undo_step.ensures.some t z from m told (undone.begun t (g.E.Engine.basis z) lawful (led t z from (g.E.Engine.view c.args.self.now.engine)) c.args.self.now.txns x c.args.txn.0 0 c.args.at k live) k.engine k.idle refl).0
 
 pub returns-in-Err-clause-stays : goal.returns-in-Err-clause-stays
 returns-in-Err-clause-stays g c z from m told x lawful k live =
     let t = table_of (λ y. (given.RecordOp-dyn g y).record_meaning y.1) (λ y. (given.RangeOp-dyn g y).range_meaning y.1) c.args.ops.now in
-    undone.step_stays t (g.E.Engine.basis z) lawful (led t z from (g.E.Engine.view c.args.self.now.engine)) c.args.self.now.txns x c.args.txn.0 c.args.at k live (led t z from (g.E.Engine.view c.undo_step.new.self)) (c.undo_step.ensures.some t z from m told (undone.begun t (g.E.Engine.basis z) lawful (led t z from (g.E.Engine.view c.args.self.now.engine)) c.args.self.now.txns x c.args.txn.0 c.args.at k live) k.engine k.idle refl).0
+    undone.step_stays t (g.E.Engine.basis z) lawful (led t z from (g.E.Engine.view c.args.self.now.engine)) c.args.self.now.txns x c.args.txn.0 0 c.args.at k live (led t z from (g.E.Engine.view c.undo_step.new.self)) (c.undo_step.ensures.some t z from m told (undone.begun t (g.E.Engine.basis z) lawful (led t z from (g.E.Engine.view c.args.self.now.engine)) c.args.self.now.txns x c.args.txn.0 0 c.args.at k live) k.engine k.idle refl).0
 
 pub returns-in-Ok-None-clause-undid : goal.returns-in-Ok-None-clause-undid
 returns-in-Ok-None-clause-undid g c z from m told x lawful k live =
     let t = table_of (λ y. (given.RecordOp-dyn g y).record_meaning y.1) (λ y. (given.RangeOp-dyn g y).range_meaning y.1) c.args.ops.now in
     let none = rw c.in-Ok-None.field-0-is at c.in-Ok-None.ensures.none in
     let b = none t z from m told k.engine k.idle refl in (
-      undone.undid_none t (g.E.Engine.basis z) lawful (led t z from (g.E.Engine.view c.args.self.now.engine)) c.args.self.now.txns x c.args.txn.0 c.args.at k live (led t z from (g.E.Engine.view c.undo_step.new.self)) b.1,
-      undone.none_still t (g.E.Engine.basis z) lawful (led t z from (g.E.Engine.view c.args.self.now.engine)) c.args.self.now.txns x c.args.txn.0 c.args.at k live (led t z from (g.E.Engine.view c.undo_step.new.self)) b.1 b.0,
-      backs_none t (g.E.Engine.basis z) (led t z from (g.E.Engine.view c.args.self.now.engine)) (led t z from (g.E.Engine.view c.undo_step.new.self)) c.args.txn.0 b.1,
+      undone.undid_none t (g.E.Engine.basis z) lawful (led t z from (g.E.Engine.view c.args.self.now.engine)) c.args.self.now.txns x c.args.txn.0 0 c.args.at k live (led t z from (g.E.Engine.view c.undo_step.new.self)) b.1,
+      undone.none_still t (g.E.Engine.basis z) lawful (led t z from (g.E.Engine.view c.args.self.now.engine)) c.args.self.now.txns x c.args.txn.0 0 c.args.at k live (led t z from (g.E.Engine.view c.undo_step.new.self)) b.1 b.0,
+      backs_none t (g.E.Engine.basis z) (led t z from (g.E.Engine.view c.args.self.now.engine)) (led t z from (g.E.Engine.view c.undo_step.new.self)) (is_of c.args.txn.0) b.1,
     )
 
 pub returns-then-after-at-clause-stays : goal.returns-then-after-at-clause-stays
 returns-then-after-at-clause-stays g c z from m told x lawful k live =
     let t = table_of (λ y. (given.RecordOp-dyn g y).record_meaning y.1) (λ y. (given.RangeOp-dyn g y).range_meaning y.1) c.args.ops.now in
     let some = rw c.in-Ok-Some.field-0-is at c.in-Ok-Some.ensures.some in
-    absurd (taking.never_up t (g.E.Engine.basis z) lawful (led t z from (g.E.Engine.view c.args.self.now.engine)) c.args.self.now.txns x c.args.txn.0 c.args.at k live (led t z from (g.E.Engine.view c.undo_step.new.self)) c.undo_step.new.into c.in-Ok-Some.after (some t z from m told) c.if-after-at.true)
+    absurd (taking.never_up t (g.E.Engine.basis z) lawful (led t z from (g.E.Engine.view c.args.self.now.engine)) c.args.self.now.txns x c.args.txn.0 0 c.args.at k live (led t z from (g.E.Engine.view c.undo_step.new.self)) c.undo_step.new.into c.in-Ok-Some.after (taking.all_low t (g.E.Engine.basis z) (led t z from (g.E.Engine.view c.args.self.now.engine)) (led t z from (g.E.Engine.view c.undo_step.new.self)) c.args.txn.0 c.undo_step.new.into c.in-Ok-Some.after (some t z from m told)) c.if-after-at.true)
 
 pub returns-in-Err-reverse-clause-stays : goal.returns-in-Err-reverse-clause-stays
 returns-in-Err-reverse-clause-stays g c z from m told x lawful k live =
     let t = table_of (λ y. (given.RecordOp-dyn g y).record_meaning y.1) (λ y. (given.RangeOp-dyn g y).range_meaning y.1) c.args.ops.now in
     let some = rw c.in-Ok-Some.field-0-is at c.in-Ok-Some.ensures.some in
-    taking.reversing_stays t (g.E.Engine.basis z) lawful (led t z from (g.E.Engine.view c.args.self.now.engine)) c.args.self.now.txns x c.args.txn.0 c.args.at k live (led t z from (g.E.Engine.view c.undo_step.new.self)) c.undo_step.new.into c.in-Ok-Some.after (some t z from m told) (led t z from (g.E.Engine.view c.reverse.new.self)) (λ o a n e f said can. (c.reverse.ensures.reverses z from (c.undo_step.ensures.means t z from m) (c.in-Ok-Some.ensures.counts.tells told) o a n e f said can).0)
+    taking.reversing_stays t (g.E.Engine.basis z) lawful (led t z from (g.E.Engine.view c.args.self.now.engine)) c.args.self.now.txns x c.args.txn.0 0 c.args.at k live (led t z from (g.E.Engine.view c.undo_step.new.self)) c.undo_step.new.into c.in-Ok-Some.after (taking.all_low t (g.E.Engine.basis z) (led t z from (g.E.Engine.view c.args.self.now.engine)) (led t z from (g.E.Engine.view c.undo_step.new.self)) c.args.txn.0 c.undo_step.new.into c.in-Ok-Some.after (some t z from m told)) (led t z from (g.E.Engine.view c.reverse.new.self)) (λ o a n e f said can. (c.reverse.ensures.reverses z from (c.undo_step.ensures.means t z from m) (c.in-Ok-Some.ensures.counts.tells told) o a n e f said can).0)
 
 pub returns-in-Ok-end_undo-clause-stays : goal.returns-in-Ok-end_undo-clause-stays
 returns-in-Ok-end_undo-clause-stays g c z from m told x lawful k live =
     let t = table_of (λ y. (given.RecordOp-dyn g y).record_meaning y.1) (λ y. (given.RangeOp-dyn g y).range_meaning y.1) c.args.ops.now in
     let some = rw c.in-Ok-Some.field-0-is at c.in-Ok-Some.ensures.some in
-    taking.ending_stays t (g.E.Engine.basis z) lawful (led t z from (g.E.Engine.view c.args.self.now.engine)) c.args.self.now.txns x c.args.txn.0 c.args.at k live (led t z from (g.E.Engine.view c.undo_step.new.self)) c.undo_step.new.into c.in-Ok-Some.after (some t z from m told) (led t z from (g.E.Engine.view c.reverse.new.self)) (λ o a n e f said can. c.in-Ok.ensures.reverses z from (c.undo_step.ensures.means t z from m) (c.in-Ok-Some.ensures.counts.tells told) o a n e f said can) (led t z from (g.E.Engine.view c.end_undo.new.self)) (λ a e f own n ns stands next. let d = c.end_undo.ensures.ends t z from (c.reverse.ensures.means z from (c.undo_step.ensures.means t z from m)) (c.in-Ok.ensures.counts.tells (c.in-Ok-Some.ensures.counts.tells told)) a e f own n ns stands next in (d.0, d.1, d.2))
+    taking.ending_stays t (g.E.Engine.basis z) lawful (led t z from (g.E.Engine.view c.args.self.now.engine)) c.args.self.now.txns x c.args.txn.0 0 c.args.at k live (led t z from (g.E.Engine.view c.undo_step.new.self)) c.undo_step.new.into c.in-Ok-Some.after (taking.all_low t (g.E.Engine.basis z) (led t z from (g.E.Engine.view c.args.self.now.engine)) (led t z from (g.E.Engine.view c.undo_step.new.self)) c.args.txn.0 c.undo_step.new.into c.in-Ok-Some.after (some t z from m told)) (led t z from (g.E.Engine.view c.reverse.new.self)) (λ o a n e f said can. c.in-Ok.ensures.reverses z from (c.undo_step.ensures.means t z from m) (c.in-Ok-Some.ensures.counts.tells told) o a n e f said can) (led t z from (g.E.Engine.view c.end_undo.new.self)) (λ a e f own n ns stands next. let d = c.end_undo.ensures.ends t z from (c.reverse.ensures.means z from (c.undo_step.ensures.means t z from m)) (c.in-Ok.ensures.counts.tells (c.in-Ok-Some.ensures.counts.tells told)) a e f own n ns stands next in (d.0, d.1, d.2))
 
 pub returns-in-Err-end_undo-clause-stays : goal.returns-in-Err-end_undo-clause-stays
 returns-in-Err-end_undo-clause-stays g c z from m told x lawful k live =
     let t = table_of (λ y. (given.RecordOp-dyn g y).record_meaning y.1) (λ y. (given.RangeOp-dyn g y).range_meaning y.1) c.args.ops.now in
     let some = rw c.in-Ok-Some.field-0-is at c.in-Ok-Some.ensures.some in
-    taking.ending_stays t (g.E.Engine.basis z) lawful (led t z from (g.E.Engine.view c.args.self.now.engine)) c.args.self.now.txns x c.args.txn.0 c.args.at k live (led t z from (g.E.Engine.view c.undo_step.new.self)) c.undo_step.new.into c.in-Ok-Some.after (some t z from m told) (led t z from (g.E.Engine.view c.reverse.new.self)) (λ o a n e f said can. c.in-Ok.ensures.reverses z from (c.undo_step.ensures.means t z from m) (c.in-Ok-Some.ensures.counts.tells told) o a n e f said can) (led t z from (g.E.Engine.view c.end_undo.new.self)) (λ a e f own n ns stands next. let d = c.end_undo.ensures.ends t z from (c.reverse.ensures.means z from (c.undo_step.ensures.means t z from m)) (c.in-Ok.ensures.counts.tells (c.in-Ok-Some.ensures.counts.tells told)) a e f own n ns stands next in (d.0, d.1, d.2))
+    taking.ending_stays t (g.E.Engine.basis z) lawful (led t z from (g.E.Engine.view c.args.self.now.engine)) c.args.self.now.txns x c.args.txn.0 0 c.args.at k live (led t z from (g.E.Engine.view c.undo_step.new.self)) c.undo_step.new.into c.in-Ok-Some.after (taking.all_low t (g.E.Engine.basis z) (led t z from (g.E.Engine.view c.args.self.now.engine)) (led t z from (g.E.Engine.view c.undo_step.new.self)) c.args.txn.0 c.undo_step.new.into c.in-Ok-Some.after (some t z from m told)) (led t z from (g.E.Engine.view c.reverse.new.self)) (λ o a n e f said can. c.in-Ok.ensures.reverses z from (c.undo_step.ensures.means t z from m) (c.in-Ok-Some.ensures.counts.tells told) o a n e f said can) (led t z from (g.E.Engine.view c.end_undo.new.self)) (λ a e f own n ns stands next. let d = c.end_undo.ensures.ends t z from (c.reverse.ensures.means z from (c.undo_step.ensures.means t z from m)) (c.in-Ok.ensures.counts.tells (c.in-Ok-Some.ensures.counts.tells told)) a e f own n ns stands next in (d.0, d.1, d.2))
 
 pub returns-in-Ok-end_undo-clause-undid : goal.returns-in-Ok-end_undo-clause-undid
 returns-in-Ok-end_undo-clause-undid g c z from m told x lawful k live =
     let t = table_of (λ y. (given.RecordOp-dyn g y).record_meaning y.1) (λ y. (given.RangeOp-dyn g y).range_meaning y.1) c.args.ops.now in
     let some = rw c.in-Ok-Some.field-0-is at c.in-Ok-Some.ensures.some in
-    taking.ended_undid t (g.E.Engine.basis z) lawful (led t z from (g.E.Engine.view c.args.self.now.engine)) c.args.self.now.txns x c.args.txn.0 c.args.at k live (led t z from (g.E.Engine.view c.undo_step.new.self)) c.undo_step.new.into c.in-Ok-Some.after (some t z from m told) (led t z from (g.E.Engine.view c.reverse.new.self)) (λ o a n e f said can. c.in-Ok.ensures.reverses z from (c.undo_step.ensures.means t z from m) (c.in-Ok-Some.ensures.counts.tells told) o a n e f said can) (led t z from (g.E.Engine.view c.end_undo.new.self)) (λ a e f own n ns stands next. c.in-Ok-end_undo.ensures.ends t z from (c.reverse.ensures.means z from (c.undo_step.ensures.means t z from m)) (c.in-Ok.ensures.counts.tells (c.in-Ok-Some.ensures.counts.tells told)) a e f own n ns stands next)
+    let e = taking.ended_undid t (g.E.Engine.basis z) lawful (led t z from (g.E.Engine.view c.args.self.now.engine)) c.args.self.now.txns x c.args.txn.0 0 c.args.at k live (led t z from (g.E.Engine.view c.undo_step.new.self)) c.undo_step.new.into c.in-Ok-Some.after (taking.all_low t (g.E.Engine.basis z) (led t z from (g.E.Engine.view c.args.self.now.engine)) (led t z from (g.E.Engine.view c.undo_step.new.self)) c.args.txn.0 c.undo_step.new.into c.in-Ok-Some.after (some t z from m told)) (led t z from (g.E.Engine.view c.reverse.new.self)) (λ o a n e f said can. c.in-Ok.ensures.reverses z from (c.undo_step.ensures.means t z from m) (c.in-Ok-Some.ensures.counts.tells told) o a n e f said can) (led t z from (g.E.Engine.view c.end_undo.new.self)) (λ a e f own n ns stands next. c.in-Ok-end_undo.ensures.ends t z from (c.reverse.ensures.means z from (c.undo_step.ensures.means t z from m)) (c.in-Ok.ensures.counts.tells (c.in-Ok-Some.ensures.counts.tells told)) a e f own n ns stands next)
+    (is_of c.args.txn.0) (steps_left t (g.E.Engine.basis z) c.args.txn.0) (λ i low. same_number c.args.txn.0) in
+    (e.0, e.1)
 
 pub undo_step-requires : goal.undo_step-requires
 undo_step-requires g c =
@@ -78,7 +82,7 @@ reverse-requires g c =
         can = λ told.
             (let one = c.undo_step.ensures.counts.told told in
             let h = s.can one in
-            taking.takes_back t (g.E.Engine.basis s.sizes) h.lawful (led t s.sizes (s.from one) (g.E.Engine.view c.args.self.now.engine)) c.args.self.now.txns h.run c.args.txn.0 c.args.at h.undoing h.live (led t s.sizes (s.from one) (g.E.Engine.view c.undo_step.new.self)) c.undo_step.new.into c.in-Ok-Some.after (some t s.sizes (s.from one) (s.means one) one));
+            taking.takes_back t (g.E.Engine.basis s.sizes) h.lawful (led t s.sizes (s.from one) (g.E.Engine.view c.args.self.now.engine)) c.args.self.now.txns h.run c.args.txn.0 0 c.args.at h.undoing h.live (led t s.sizes (s.from one) (g.E.Engine.view c.undo_step.new.self)) c.undo_step.new.into c.in-Ok-Some.after (taking.all_low t (g.E.Engine.basis s.sizes) (led t s.sizes (s.from one) (g.E.Engine.view c.args.self.now.engine)) (led t s.sizes (s.from one) (g.E.Engine.view c.undo_step.new.self)) c.args.txn.0 c.undo_step.new.into c.in-Ok-Some.after (some t s.sizes (s.from one) (s.means one) one)));
       };
     }
 
@@ -97,7 +101,7 @@ end_undo-requires g c =
             (let two = c.reverse.ensures.counts.told told in
             let one = c.undo_step.ensures.counts.told two in
             let h = s.can one in
-            taking.acts_back t (g.E.Engine.basis s.sizes) h.lawful (led t s.sizes (s.from one) (g.E.Engine.view c.args.self.now.engine)) c.args.self.now.txns h.run c.args.txn.0 c.args.at h.undoing h.live (led t s.sizes (s.from one) (g.E.Engine.view c.undo_step.new.self)) c.undo_step.new.into c.in-Ok-Some.after (some t s.sizes (s.from one) (s.means one) one) (led t s.sizes (s.from one) (g.E.Engine.view c.reverse.new.self)) (λ o a n e f said can. c.in-Ok.ensures.reverses s.sizes (s.from one) (c.undo_step.ensures.means t s.sizes (s.from one) (s.means one)) two o a n e f said can));
+            taking.acts_back t (g.E.Engine.basis s.sizes) h.lawful (led t s.sizes (s.from one) (g.E.Engine.view c.args.self.now.engine)) c.args.self.now.txns h.run c.args.txn.0 0 c.args.at h.undoing h.live (led t s.sizes (s.from one) (g.E.Engine.view c.undo_step.new.self)) c.undo_step.new.into c.in-Ok-Some.after (taking.all_low t (g.E.Engine.basis s.sizes) (led t s.sizes (s.from one) (g.E.Engine.view c.args.self.now.engine)) (led t s.sizes (s.from one) (g.E.Engine.view c.undo_step.new.self)) c.args.txn.0 c.undo_step.new.into c.in-Ok-Some.after (some t s.sizes (s.from one) (s.means one) one)) (led t s.sizes (s.from one) (g.E.Engine.view c.reverse.new.self)) (λ o a n e f said can. c.in-Ok.ensures.reverses s.sizes (s.from one) (c.undo_step.ensures.means t s.sizes (s.from one) (s.means one)) two o a n e f said can));
       };
     }
 
@@ -145,7 +149,7 @@ broken-requires g c =
       untold = λ told.
           (let one = c.undo_step.ensures.counts.told told in
           let h = s.can one in
-          taking.never_up t (g.E.Engine.basis s.sizes) h.lawful (led t s.sizes (s.from one) (g.E.Engine.view c.args.self.now.engine)) c.args.self.now.txns h.run c.args.txn.0 c.args.at h.undoing h.live (led t s.sizes (s.from one) (g.E.Engine.view c.undo_step.new.self)) c.undo_step.new.into c.in-Ok-Some.after (some t s.sizes (s.from one) (s.means one) one) c.if-after-at.true);
+          taking.never_up t (g.E.Engine.basis s.sizes) h.lawful (led t s.sizes (s.from one) (g.E.Engine.view c.args.self.now.engine)) c.args.self.now.txns h.run c.args.txn.0 0 c.args.at h.undoing h.live (led t s.sizes (s.from one) (g.E.Engine.view c.undo_step.new.self)) c.undo_step.new.into c.in-Ok-Some.after (taking.all_low t (g.E.Engine.basis s.sizes) (led t s.sizes (s.from one) (g.E.Engine.view c.args.self.now.engine)) (led t s.sizes (s.from one) (g.E.Engine.view c.undo_step.new.self)) c.args.txn.0 c.undo_step.new.into c.in-Ok-Some.after (some t s.sizes (s.from one) (s.means one) one)) c.if-after-at.true);
     }
 
 pub returns-then-after-at-clause-accounts : goal.returns-then-after-at-clause-accounts
@@ -156,5 +160,5 @@ returns-then-after-at-clause-accounts g c =
     accounting.accounts_broken (g.E.Engine.view c.args.self.now.engine) (g.E.Engine.view c.broken.new.self) c.broken.result (subst IsDiskFault (sym c.broken.ensures.answer) tt)
     (λ one.
     (let h = s.can one in
-    taking.never_up t (g.E.Engine.basis s.sizes) h.lawful (led t s.sizes (s.from one) (g.E.Engine.view c.args.self.now.engine)) c.args.self.now.txns h.run c.args.txn.0 c.args.at h.undoing h.live (led t s.sizes (s.from one) (g.E.Engine.view c.undo_step.new.self)) c.undo_step.new.into c.in-Ok-Some.after (some t s.sizes (s.from one) (s.means one) one) c.if-after-at.true))
+    taking.never_up t (g.E.Engine.basis s.sizes) h.lawful (led t s.sizes (s.from one) (g.E.Engine.view c.args.self.now.engine)) c.args.self.now.txns h.run c.args.txn.0 0 c.args.at h.undoing h.live (led t s.sizes (s.from one) (g.E.Engine.view c.undo_step.new.self)) c.undo_step.new.into c.in-Ok-Some.after (taking.all_low t (g.E.Engine.basis s.sizes) (led t s.sizes (s.from one) (g.E.Engine.view c.args.self.now.engine)) (led t s.sizes (s.from one) (g.E.Engine.view c.undo_step.new.self)) c.args.txn.0 c.undo_step.new.into c.in-Ok-Some.after (some t s.sizes (s.from one) (s.means one) one)) c.if-after-at.true))
     (accounting.unfailed_both (g.E.Engine.view c.args.self.now.engine) (g.E.Engine.view c.undo_step.new.self) (g.E.Engine.view c.broken.new.self) (accounting.unfailed_done (g.E.Engine.view c.args.self.now.engine) (g.E.Engine.view c.undo_step.new.self) _ c.in-Ok-Some.ensures.counts.accounts) (accounting.unasked (g.E.Engine.view c.undo_step.new.self) (g.E.Engine.view c.broken.new.self) c.broken.ensures.disk c.broken.ensures.gate))

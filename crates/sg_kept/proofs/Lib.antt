@@ -1,0 +1,5 @@
+pub mod Ending
+pub mod Formed
+pub mod Kept
+pub mod Saying
+pub mod Tallies

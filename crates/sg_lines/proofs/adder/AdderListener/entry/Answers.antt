@@ -1,0 +1,14 @@
+use Rattle.std.proofs.Common.{◌%◌, ◌^◌, ap, ◌∙◌}
+use Rattle.std.specs.Prelude.{sum}
+use Rattle.sg_lines.specs.Parts.Part.{AnEntry}
+use Rattle.sg_lines.specs.declared.adder.Adder.{Adder}
+use Rattle.sg_lines.specs.declared.summary.Summary.{Summary}
+use Rattle.sg_lines.proofs.Adding.{added, heard_part, mod_both}
+use Rattle.sg_lines.proofs.adder.AdderListener.entry.Goals as goal
+
+pub returns : goal.returns
+returns c =
+    let is = c.contents.ensures in
+    heard_part (λ (s : Adder). s.summary) c.args.self.now (record { summary = c.add.new.self }) (AnEntry c.args.key.now c.args.value.now) tt
+    (c.add.ensures ∙ added c.args.self.now.summary c.contents.result (AnEntry c.args.key.now c.args.value.now) (ap (λ (s : Summary). s.objects) is) (ap (λ (s : Summary). s.items) is) (ap (λ (s : Summary). s.entries) is)
+    (ap (λ (s : Summary). s.bytes) is) (ap (λ (s : Summary). s.sum % 2 ^ 64) is ∙ mod_both c.sum_of.result c.sum_of-2.result (sum c.args.key.now) (sum c.args.value.now) c.sum_of.ensures c.sum_of-2.ensures))

@@ -1,0 +1,168 @@
+use Rattle.std.proofs.Common.{◌+◌, refl, sym, subst, ◌∙◌}
+use Rattle.sg_ops.specs.Table.{table_of}
+use Rattle.sg_store.specs.Engine.{led, IsAtMark, IsDiskFault}
+use Rattle.sg_store.specs.Asks.{IsGoingBack}
+use Rattle.sg_store.proofs.Serving as serving
+use Rattle.sg_store.proofs.Taking as taking
+use Rattle.sg_store.proofs.Undone as undone
+use Rattle.sg_store.proofs.store.Store.undo_one_to.Given as given
+use Rattle.sg_store.proofs.Accounting as accounting
+use Rattle.sg_store.specs.Room.{is_behind}
+use Rattle.sg_store.proofs.Rolling as rolling
+use Rattle.sg_store.proofs.Stocked.{backs_none}
+use Rattle.sg_store.proofs.store.Store.undo_one_to.Goals as goal
+
+pub returns-in-Ok-None-clause-stays : goal.returns-in-Ok-None-clause-stays
+returns-in-Ok-None-clause-stays g c z from m told x lawful k live =
+    let t = table_of (λ y. (given.RecordOp-dyn g y).record_meaning y.1) (λ y. (given.RangeOp-dyn g y).range_meaning y.1) c.args.ops.now in
+    undone.step_stays t (g.E.Engine.basis z) lawful (led t z from (g.E.Engine.view c.args.self.now.engine)) c.args.self.now.txns x c.args.txn.0 (c.args.stop + 1) c.args.at k live (led t z from (g.E.Engine.view c.undo_step_to.new.self)) (c.undo_step_to.ensures.some t z from m told (undone.begun t (g.E.Engine.basis z) lawful (led t z from (g.E.Engine.view c.args.self.now.engine)) c.args.self.now.txns x c.args.txn.0 (c.args.stop + 1) c.args.at k live) k.engine k.idle refl).0
+
+pub returns-in-Err-clause-stays : goal.returns-in-Err-clause-stays
+returns-in-Err-clause-stays g c z from m told x lawful k live =
+    let t = table_of (λ y. (given.RecordOp-dyn g y).record_meaning y.1) (λ y. (given.RangeOp-dyn g y).range_meaning y.1) c.args.ops.now in
+    undone.step_stays t (g.E.Engine.basis z) lawful (led t z from (g.E.Engine.view c.args.self.now.engine)) c.args.self.now.txns x c.args.txn.0 (c.args.stop + 1) c.args.at k live (led t z from (g.E.Engine.view c.undo_step_to.new.self)) (c.undo_step_to.ensures.some t z from m told (undone.begun t (g.E.Engine.basis z) lawful (led t z from (g.E.Engine.view c.args.self.now.engine)) c.args.self.now.txns x c.args.txn.0 (c.args.stop + 1) c.args.at k live) k.engine k.idle refl).0
+
+pub returns-in-Ok-None-clause-undid : goal.returns-in-Ok-None-clause-undid
+returns-in-Ok-None-clause-undid g c z from m told x lawful k live =
+    let t = table_of (λ y. (given.RecordOp-dyn g y).record_meaning y.1) (λ y. (given.RangeOp-dyn g y).range_meaning y.1) c.args.ops.now in
+    let none = rw c.in-Ok-None.field-0-is at c.in-Ok-None.ensures.none in
+    let b = none t z from m told k.engine k.idle refl in (
+      undone.undid_none t (g.E.Engine.basis z) lawful (led t z from (g.E.Engine.view c.args.self.now.engine)) c.args.self.now.txns x c.args.txn.0 (c.args.stop + 1) c.args.at k live (led t z from (g.E.Engine.view c.undo_step_to.new.self)) b.1,
+      rolling.none_still t (g.E.Engine.basis z) (led t z from (g.E.Engine.view c.args.self.now.engine)) (led t z from (g.E.Engine.view c.undo_step_to.new.self)) c.args.txn.0 c.args.stop b.1 b.0,
+      rolling.same_notes t (g.E.Engine.basis z) (led t z from (g.E.Engine.view c.args.self.now.engine)) (led t z from (g.E.Engine.view c.undo_step_to.new.self)) b.1,
+      backs_none t (g.E.Engine.basis z) (led t z from (g.E.Engine.view c.args.self.now.engine)) (led t z from (g.E.Engine.view c.undo_step_to.new.self)) (is_behind c.args.txn.0 c.args.stop) b.1,
+    )
+
+pub returns-then-next-at-clause-stays : goal.returns-then-next-at-clause-stays
+returns-then-next-at-clause-stays g c z from m told x lawful k live =
+    let t = table_of (λ y. (given.RecordOp-dyn g y).record_meaning y.1) (λ y. (given.RangeOp-dyn g y).range_meaning y.1) c.args.ops.now in
+    let some = rw c.in-Ok-Some.field-0-is at c.in-Ok-Some.ensures.some in
+    absurd (taking.never_up t (g.E.Engine.basis z) lawful (led t z from (g.E.Engine.view c.args.self.now.engine)) c.args.self.now.txns x c.args.txn.0 (c.args.stop + 1) c.args.at k live (led t z from (g.E.Engine.view c.undo_step_to.new.self)) c.undo_step_to.new.into c.in-Ok-Some.next (some t z from m told) c.if-next-at.true)
+
+pub returns-in-Err-reverse-clause-stays : goal.returns-in-Err-reverse-clause-stays
+returns-in-Err-reverse-clause-stays g c z from m told x lawful k live =
+    let t = table_of (λ y. (given.RecordOp-dyn g y).record_meaning y.1) (λ y. (given.RangeOp-dyn g y).range_meaning y.1) c.args.ops.now in
+    let some = rw c.in-Ok-Some.field-0-is at c.in-Ok-Some.ensures.some in
+    taking.reversing_stays t (g.E.Engine.basis z) lawful (led t z from (g.E.Engine.view c.args.self.now.engine)) c.args.self.now.txns x c.args.txn.0 (c.args.stop + 1) c.args.at k live (led t z from (g.E.Engine.view c.undo_step_to.new.self)) c.undo_step_to.new.into c.in-Ok-Some.next (some t z from m told) (led t z from (g.E.Engine.view c.reverse.new.self)) (λ o a n e f said can. (c.reverse.ensures.reverses z from (c.undo_step_to.ensures.means t z from m) (c.in-Ok-Some.ensures.counts.tells told) o a n e f said can).0)
+
+pub returns-in-Ok-end_undo-clause-stays : goal.returns-in-Ok-end_undo-clause-stays
+returns-in-Ok-end_undo-clause-stays g c z from m told x lawful k live =
+    let t = table_of (λ y. (given.RecordOp-dyn g y).record_meaning y.1) (λ y. (given.RangeOp-dyn g y).range_meaning y.1) c.args.ops.now in
+    let some = rw c.in-Ok-Some.field-0-is at c.in-Ok-Some.ensures.some in
+    taking.ending_stays t (g.E.Engine.basis z) lawful (led t z from (g.E.Engine.view c.args.self.now.engine)) c.args.self.now.txns x c.args.txn.0 (c.args.stop + 1) c.args.at k live (led t z from (g.E.Engine.view c.undo_step_to.new.self)) c.undo_step_to.new.into c.in-Ok-Some.next (some t z from m told) (led t z from (g.E.Engine.view c.reverse.new.self)) (λ o a n e f said can. c.in-Ok.ensures.reverses z from (c.undo_step_to.ensures.means t z from m) (c.in-Ok-Some.ensures.counts.tells told) o a n e f said can) (led t z from (g.E.Engine.view c.end_undo.new.self)) (λ a e f own n ns stands next. let d = c.end_undo.ensures.ends t z from (c.reverse.ensures.means z from (c.undo_step_to.ensures.means t z from m)) (c.in-Ok.ensures.counts.tells (c.in-Ok-Some.ensures.counts.tells told)) a e f own n ns stands next in (d.0, d.1, d.2))
+
+pub returns-in-Err-end_undo-clause-stays : goal.returns-in-Err-end_undo-clause-stays
+returns-in-Err-end_undo-clause-stays g c z from m told x lawful k live =
+    let t = table_of (λ y. (given.RecordOp-dyn g y).record_meaning y.1) (λ y. (given.RangeOp-dyn g y).range_meaning y.1) c.args.ops.now in
+    let some = rw c.in-Ok-Some.field-0-is at c.in-Ok-Some.ensures.some in
+    taking.ending_stays t (g.E.Engine.basis z) lawful (led t z from (g.E.Engine.view c.args.self.now.engine)) c.args.self.now.txns x c.args.txn.0 (c.args.stop + 1) c.args.at k live (led t z from (g.E.Engine.view c.undo_step_to.new.self)) c.undo_step_to.new.into c.in-Ok-Some.next (some t z from m told) (led t z from (g.E.Engine.view c.reverse.new.self)) (λ o a n e f said can. c.in-Ok.ensures.reverses z from (c.undo_step_to.ensures.means t z from m) (c.in-Ok-Some.ensures.counts.tells told) o a n e f said can) (led t z from (g.E.Engine.view c.end_undo.new.self)) (λ a e f own n ns stands next. let d = c.end_undo.ensures.ends t z from (c.reverse.ensures.means z from (c.undo_step_to.ensures.means t z from m)) (c.in-Ok.ensures.counts.tells (c.in-Ok-Some.ensures.counts.tells told)) a e f own n ns stands next in (d.0, d.1, d.2))
+
+pub returns-in-Ok-end_undo-clause-undid : goal.returns-in-Ok-end_undo-clause-undid
+returns-in-Ok-end_undo-clause-undid g c z from m told x lawful k live =
+    let t = table_of (λ y. (given.RecordOp-dyn g y).record_meaning y.1) (λ y. (given.RangeOp-dyn g y).range_meaning y.1) c.args.ops.now in
+    let some = rw c.in-Ok-Some.field-0-is at c.in-Ok-Some.ensures.some in
+    let e = taking.ended_undid t (g.E.Engine.basis z) lawful (led t z from (g.E.Engine.view c.args.self.now.engine)) c.args.self.now.txns x c.args.txn.0 (c.args.stop + 1) c.args.at k live (led t z from (g.E.Engine.view c.undo_step_to.new.self)) c.undo_step_to.new.into c.in-Ok-Some.next (some t z from m told) (led t z from (g.E.Engine.view c.reverse.new.self)) (λ o a n e f said can. c.in-Ok.ensures.reverses z from (c.undo_step_to.ensures.means t z from m) (c.in-Ok-Some.ensures.counts.tells told) o a n e f said can) (led t z from (g.E.Engine.view c.end_undo.new.self)) (λ a e f own n ns stands next. c.in-Ok-end_undo.ensures.ends t z from (c.reverse.ensures.means z from (c.undo_step_to.ensures.means t z from m)) (c.in-Ok.ensures.counts.tells (c.in-Ok-Some.ensures.counts.tells told)) a e f own n ns stands next)
+    (is_behind c.args.txn.0 c.args.stop) (rolling.steps_left_to (g.E.Engine.basis z) c.args.txn.0 c.args.stop) (λ i low. rolling.behind_own c.args.txn.0 c.args.stop i low) in
+    (e.0, e.2, e.1)
+
+pub undo_step_to-requires : goal.undo_step_to-requires
+undo_step_to-requires g c =
+    let t = table_of (λ y. (given.RecordOp-dyn g y).record_meaning y.1) (λ y. (given.RangeOp-dyn g y).range_meaning y.1) c.args.ops.now in
+    record {
+      can = serving.asked_of t (g.E.Engine.view c.args.self.now.engine) (IsGoingBack c.args.self.now.txns c.args.txn.0 c.args.stop c.args.at t) (IsAtMark c.args.txn.0 c.args.stop)
+          (λ b v h. record { rest = record { engine = h.undoing.engine; idle = h.undoing.idle }; live = h.undoing.undoes.same.lives c.args.txn.0 ∙ h.live; within = h.within }) c.requires.can;
+    }
+
+pub reverse-requires : goal.reverse-requires
+reverse-requires g c =
+    let t = table_of (λ y. (given.RecordOp-dyn g y).record_meaning y.1) (λ y. (given.RangeOp-dyn g y).range_meaning y.1) c.args.ops.now in
+    let some = rw c.in-Ok-Some.field-0-is at c.in-Ok-Some.ensures.some in
+    let s = c.requires.can in
+    record {
+      can = record {
+        sizes = s.sizes;
+        from = λ told. s.from (c.undo_step_to.ensures.counts.told told);
+        means = λ told. c.undo_step_to.ensures.means t s.sizes (s.from (c.undo_step_to.ensures.counts.told told)) (s.means (c.undo_step_to.ensures.counts.told told));
+        can = λ told.
+            (let one = c.undo_step_to.ensures.counts.told told in
+            let h = s.can one in
+            taking.takes_back t (g.E.Engine.basis s.sizes) h.lawful (led t s.sizes (s.from one) (g.E.Engine.view c.args.self.now.engine)) c.args.self.now.txns h.run c.args.txn.0 (c.args.stop + 1) c.args.at h.undoing h.live (led t s.sizes (s.from one) (g.E.Engine.view c.undo_step_to.new.self)) c.undo_step_to.new.into c.in-Ok-Some.next (some t s.sizes (s.from one) (s.means one) one));
+      };
+    }
+
+pub end_undo-requires : goal.end_undo-requires
+end_undo-requires g c =
+    let t = table_of (λ y. (given.RecordOp-dyn g y).record_meaning y.1) (λ y. (given.RangeOp-dyn g y).range_meaning y.1) c.args.ops.now in
+    let some = rw c.in-Ok-Some.field-0-is at c.in-Ok-Some.ensures.some in
+    let s = c.requires.can in
+    record {
+      can = record {
+        by = t;
+        sizes = s.sizes;
+        from = λ told. s.from (c.undo_step_to.ensures.counts.told (c.reverse.ensures.counts.told told));
+        means = λ told. c.reverse.ensures.means s.sizes (s.from (c.undo_step_to.ensures.counts.told (c.reverse.ensures.counts.told told))) (c.undo_step_to.ensures.means t s.sizes (s.from (c.undo_step_to.ensures.counts.told (c.reverse.ensures.counts.told told))) (s.means (c.undo_step_to.ensures.counts.told (c.reverse.ensures.counts.told told))));
+        can = λ told.
+            (let two = c.reverse.ensures.counts.told told in
+            let one = c.undo_step_to.ensures.counts.told two in
+            let h = s.can one in
+            taking.acts_back t (g.E.Engine.basis s.sizes) h.lawful (led t s.sizes (s.from one) (g.E.Engine.view c.args.self.now.engine)) c.args.self.now.txns h.run c.args.txn.0 (c.args.stop + 1) c.args.at h.undoing h.live (led t s.sizes (s.from one) (g.E.Engine.view c.undo_step_to.new.self)) c.undo_step_to.new.into c.in-Ok-Some.next (some t s.sizes (s.from one) (s.means one) one) (led t s.sizes (s.from one) (g.E.Engine.view c.reverse.new.self)) (λ o a n e f said can. c.in-Ok.ensures.reverses s.sizes (s.from one) (c.undo_step_to.ensures.means t s.sizes (s.from one) (s.means one)) two o a n e f said can));
+      };
+    }
+
+pub returns-in-Err-reverse-clause-means : goal.returns-in-Err-reverse-clause-means
+returns-in-Err-reverse-clause-means g c z from m =
+    let t = table_of (λ y. (given.RecordOp-dyn g y).record_meaning y.1) (λ y. (given.RangeOp-dyn g y).range_meaning y.1) c.args.ops.now in
+    c.reverse.ensures.means z from (c.undo_step_to.ensures.means t z from m)
+
+pub returns-in-Ok-end_undo-clause-means : goal.returns-in-Ok-end_undo-clause-means
+returns-in-Ok-end_undo-clause-means g c z from m =
+    let t = table_of (λ y. (given.RecordOp-dyn g y).record_meaning y.1) (λ y. (given.RangeOp-dyn g y).range_meaning y.1) c.args.ops.now in
+    c.end_undo.ensures.means t z from (c.reverse.ensures.means z from (c.undo_step_to.ensures.means t z from m))
+
+pub returns-in-Err-end_undo-clause-means : goal.returns-in-Err-end_undo-clause-means
+returns-in-Err-end_undo-clause-means g c z from m =
+    let t = table_of (λ y. (given.RecordOp-dyn g y).record_meaning y.1) (λ y. (given.RangeOp-dyn g y).range_meaning y.1) c.args.ops.now in
+    c.end_undo.ensures.means t z from (c.reverse.ensures.means z from (c.undo_step_to.ensures.means t z from m))
+
+pub returns-in-Ok-None-clause-accounts : goal.returns-in-Ok-None-clause-accounts
+returns-in-Ok-None-clause-accounts g c =
+    accounting.accounts_done (g.E.Engine.view c.args.self.now.engine) (g.E.Engine.view c.undo_step_to.new.self) _ (accounting.unfailed_done (g.E.Engine.view c.args.self.now.engine) (g.E.Engine.view c.undo_step_to.new.self) _ c.in-Ok-None.ensures.counts.accounts)
+
+pub returns-in-Err-clause-accounts : goal.returns-in-Err-clause-accounts
+returns-in-Err-clause-accounts g c =
+    accounting.accounts_then (g.E.Engine.view c.args.self.now.engine) (g.E.Engine.view c.args.self.now.engine) (g.E.Engine.view c.undo_step_to.new.self) c.in-Err.fault (accounting.unfailed_none (g.E.Engine.view c.args.self.now.engine)) (λ h. h) c.in-Err.ensures.counts.accounts
+
+pub returns-in-Err-reverse-clause-accounts : goal.returns-in-Err-reverse-clause-accounts
+returns-in-Err-reverse-clause-accounts g c =
+    accounting.accounts_then (g.E.Engine.view c.args.self.now.engine) (g.E.Engine.view c.undo_step_to.new.self) (g.E.Engine.view c.reverse.new.self) c.in-Err-reverse.fault (accounting.unfailed_done (g.E.Engine.view c.args.self.now.engine) (g.E.Engine.view c.undo_step_to.new.self) _ c.in-Ok-Some.ensures.counts.accounts) c.in-Ok-Some.ensures.counts.tells c.in-Err-reverse.ensures.counts.accounts
+
+pub returns-in-Ok-end_undo-clause-accounts : goal.returns-in-Ok-end_undo-clause-accounts
+returns-in-Ok-end_undo-clause-accounts g c =
+    accounting.accounts_done (g.E.Engine.view c.args.self.now.engine) (g.E.Engine.view c.end_undo.new.self) _ (accounting.unfailed_both (g.E.Engine.view c.args.self.now.engine) (g.E.Engine.view c.reverse.new.self) (g.E.Engine.view c.end_undo.new.self) (accounting.unfailed_both (g.E.Engine.view c.args.self.now.engine) (g.E.Engine.view c.undo_step_to.new.self) (g.E.Engine.view c.reverse.new.self) (accounting.unfailed_done (g.E.Engine.view c.args.self.now.engine) (g.E.Engine.view c.undo_step_to.new.self) _ c.in-Ok-Some.ensures.counts.accounts) (accounting.unfailed_done (g.E.Engine.view c.undo_step_to.new.self) (g.E.Engine.view c.reverse.new.self) _ c.in-Ok.ensures.counts.accounts)) (accounting.unfailed_done (g.E.Engine.view c.reverse.new.self) (g.E.Engine.view c.end_undo.new.self) _ c.in-Ok-end_undo.ensures.counts.accounts))
+
+pub returns-in-Err-end_undo-clause-accounts : goal.returns-in-Err-end_undo-clause-accounts
+returns-in-Err-end_undo-clause-accounts g c =
+    accounting.accounts_then (g.E.Engine.view c.args.self.now.engine) (g.E.Engine.view c.reverse.new.self) (g.E.Engine.view c.end_undo.new.self) c.in-Err-end_undo.fault (accounting.unfailed_both (g.E.Engine.view c.args.self.now.engine) (g.E.Engine.view c.undo_step_to.new.self) (g.E.Engine.view c.reverse.new.self) (accounting.unfailed_done (g.E.Engine.view c.args.self.now.engine) (g.E.Engine.view c.undo_step_to.new.self) _ c.in-Ok-Some.ensures.counts.accounts) (accounting.unfailed_done (g.E.Engine.view c.undo_step_to.new.self) (g.E.Engine.view c.reverse.new.self) _ c.in-Ok.ensures.counts.accounts)) (λ h. c.in-Ok.ensures.counts.tells (c.in-Ok-Some.ensures.counts.tells h)) c.in-Err-end_undo.ensures.counts.accounts
+
+pub broken-requires : goal.broken-requires
+broken-requires g c =
+    let t = table_of (λ y. (given.RecordOp-dyn g y).record_meaning y.1) (λ y. (given.RangeOp-dyn g y).range_meaning y.1) c.args.ops.now in
+    let s = c.requires.can in
+    let some = rw c.in-Ok-Some.field-0-is at c.in-Ok-Some.ensures.some in
+    record {
+      untold = λ told.
+          (let one = c.undo_step_to.ensures.counts.told told in
+          let h = s.can one in
+          taking.never_up t (g.E.Engine.basis s.sizes) h.lawful (led t s.sizes (s.from one) (g.E.Engine.view c.args.self.now.engine)) c.args.self.now.txns h.run c.args.txn.0 (c.args.stop + 1) c.args.at h.undoing h.live (led t s.sizes (s.from one) (g.E.Engine.view c.undo_step_to.new.self)) c.undo_step_to.new.into c.in-Ok-Some.next (some t s.sizes (s.from one) (s.means one) one) c.if-next-at.true);
+    }
+
+pub returns-then-next-at-clause-accounts : goal.returns-then-next-at-clause-accounts
+returns-then-next-at-clause-accounts g c =
+    let t = table_of (λ y. (given.RecordOp-dyn g y).record_meaning y.1) (λ y. (given.RangeOp-dyn g y).range_meaning y.1) c.args.ops.now in
+    let s = c.requires.can in
+    let some = rw c.in-Ok-Some.field-0-is at c.in-Ok-Some.ensures.some in
+    accounting.accounts_broken (g.E.Engine.view c.args.self.now.engine) (g.E.Engine.view c.broken.new.self) c.broken.result (subst IsDiskFault (sym c.broken.ensures.answer) tt)
+    (λ one.
+    (let h = s.can one in
+    taking.never_up t (g.E.Engine.basis s.sizes) h.lawful (led t s.sizes (s.from one) (g.E.Engine.view c.args.self.now.engine)) c.args.self.now.txns h.run c.args.txn.0 (c.args.stop + 1) c.args.at h.undoing h.live (led t s.sizes (s.from one) (g.E.Engine.view c.undo_step_to.new.self)) c.undo_step_to.new.into c.in-Ok-Some.next (some t s.sizes (s.from one) (s.means one) one) c.if-next-at.true))
+    (accounting.unfailed_both (g.E.Engine.view c.args.self.now.engine) (g.E.Engine.view c.undo_step_to.new.self) (g.E.Engine.view c.broken.new.self) (accounting.unfailed_done (g.E.Engine.view c.args.self.now.engine) (g.E.Engine.view c.undo_step_to.new.self) _ c.in-Ok-Some.ensures.counts.accounts) (accounting.unasked (g.E.Engine.view c.undo_step_to.new.self) (g.E.Engine.view c.broken.new.self) c.broken.ensures.disk c.broken.ensures.gate))
