@@ -1,5 +1,5 @@
 // Whether some bytes are a page of slots.
-ghost use Rattle.std.specs.Prelude.{◌≡◌, ◌↔◌, ◌+◌, ◌*◌, ◌<◌, ◌≤◌, length, IsTrue, IsSome, is_some, IfSome, MatchOption};
+ghost use Rattle.std.specs.Prelude.{◌≡◌, ◌↔◌, ◌+◌, ◌*◌, ◌^◌, ◌<◌, ◌≤◌, length, IsTrue, IsSome, is_some, IfSome, MatchOption};
 ghost use Rattle.std.specs.Bool.{MatchBool};
 ghost use Rattle.sg_base.specs.Page.{slots_below, count_of, stored, directory_end, start_of, AreCells, IsSlotted};
 ghost use Rattle.sg_base.specs.Slotted.{is_slotted};
@@ -7,19 +7,19 @@ ghost use Rattle.sg_base.specs.Taken.{Takes, IsMet};
 
 use crate::page::u16_at;
 use crate::{PAGE_SIZE, SlotView};
+use sg_bits::{WORD_BITS, next_set, set};
 
-// Takes the places, or meets one that is taken already.
-fn take(taken: &mut [bool], from: usize, to: usize) -> bool
+// Takes the places, or meets one that is taken already. A word of bits has 64 places.
+fn take(taken: &mut [u64], from: usize, to: usize) -> bool
     requires order { from ≤ to }
-    requires within { to ≤ length taken.old }
+    requires within { to ≤ 64 * length taken.old }
+    requires few { 64 * length taken.old < 2 ^ 64 }
     ensures { MatchBool result (Takes taken.old taken.new from to) (IsMet taken.old from to) }
 {
-    'places: for place in from..to {
-        if taken[place] {
-            return false;
-        }
-        taken[place] = true;
+    if next_set(taken, from) < to {
+        return false;
     }
+    set(taken, from, to);
     true
 }
 
@@ -38,7 +38,7 @@ fn stored_bytes(page: &[u8], start: usize, count: usize) -> Option<usize>
     requires directory { 24 + 4 * count ≤ 4096 }
     ensures { MatchOption result (¬ AreCells page.now start count) (λ n. AreCells page.now start count × (n ≡ stored (slots_below page.now count)) × (n ≤ 4096 * count)) }
 {
-    let mut taken = [false; PAGE_SIZE];
+    let mut taken = [0; PAGE_SIZE / WORD_BITS];
     let mut bytes = 0;
     'slots: for slot in 0..count {
         let offset = u16_at(page, 24 + 4 * slot) as usize;

@@ -3,7 +3,7 @@
 //! its replies go) with implementations in memory and over std, fields of fixed width, pages of
 //! slots and the operations on them, and a counter of steps that has no bytes (`Steps`).
 //!
-//! It stands on `byteorder` alone. It promises that a call of a trait here fails only where that
+//! It stands on `byteorder` and `sg_bits`. It promises that a call of a trait here fails only where that
 //! object's count of faults rose, that a source and a sink that tell their contents give and take
 //! exactly these, that those in memory fail at the call that was asked for, that a number and its
 //! bytes are told from each other both ways, and that a step counts one at no cost when it runs.
