@@ -64,7 +64,7 @@ SavesFor u old new k m (Err (marks.Store refusals.LogEnd)) = (k.stopped ≡ None
 SavesFor u old new k m (Err (marks.Store refusals.DiskFault)) = (k.stopped ≡ None) × (is_live k.live u ≡ true) × (length (marks_of k.live u) < MOST_MARKS) × (old.tail ≤ NEW_WORK_END) × BreaksFor old new k m
 SavesFor u old new k m (Err other) = ⊥
 
--- a going back to a mark: the transaction has the marks up to this one, and has reserved no more than it had
+-- a going back to a mark: at Ok the transaction has that mark, and of all that the store counts only what its live transactions have changes
 abbrev pub RollsFor : {basis : Sizes → Ground} → (u mark : ℕ) → (old new : Shown basis) → (k m : Core) → Result (Unit {0}) MarkRefused → Type 0
 RollsFor u mark old new k m (Ok done) = (k.stopped ≡ None) × (is_live k.live u ≡ true) × IsSome (nth_mark mark (marks_of k.live u)) × (m ≡ record k { live = m.live })
 RollsFor u mark old new k m (Err (marks.Store refusals.Stopped)) = IsSome k.stopped × (m ≡ k)
