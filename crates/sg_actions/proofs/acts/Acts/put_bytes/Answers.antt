@@ -109,4 +109,4 @@ returns-in_err-self-clause-counts g c =
     err_is {T = ℕ} c.from_residual-in_err-self.result c.in_err-self.field-0.0 p.0 p.1 p.2 (looked_err (looked_engine c.args.self.now.breaks c.in_ok-load_band.ensures.rests.counts) (err_engine c.args.self.now.breaks (g.met.E.Engine.told_whole _) c.in_err-self.ensures.grows.counts))
 
 pub returns-clause-counts : goal.returns-clause-counts
-returns-clause-counts g c = looked_ok _ (looked_then (looked_engine c.args.self.now.breaks c.in_ok-load_band.ensures.rests.counts) (looked_ok _ (looked_engine c.args.self.now.breaks c.in_ok-self.ensures.grows.counts)))
+returns-clause-counts g c = looked_ok _ (looked_then {T = ℕ} {x = c.in_ok-self.field-0} (looked_engine c.args.self.now.breaks c.in_ok-load_band.ensures.rests.counts) (looked_ok c.in_ok-self.field-0 (looked_engine c.args.self.now.breaks c.in_ok-self.ensures.grows.counts)))

@@ -1,5 +1,5 @@
 use mathlib.Core.Logic.{∥∥₁_elim}
-use Rattle.std.proofs.Common.{sym, ap, subst, ◌∙◌, arith, ℕ, ◌<◌}
+use Rattle.std.proofs.Common.{false, sym, ap, subst, ◌∙◌, arith, ℕ, ◌<◌}
 use Rattle.std.specs.Prelude.{option_map}
 use Rattle.std.proofs.lemmas.Result.{err_from_is_err_and}
 use Rattle.sg_record.specs.Shown.{shown_change}
