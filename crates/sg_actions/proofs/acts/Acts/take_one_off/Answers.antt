@@ -1,5 +1,5 @@
 use mathlib.Core.Logic.{∥∥₁_elim, ∥∥₁_prop}
-use Rattle.std.proofs.Common.{◌≡◌, true, sym, ap, subst, ◌∙◌, refl, arith, false}
+use Rattle.std.proofs.Common.{◌≡◌, true, sym, ap, subst, ◌∙◌, refl, arith, false, ℕ}
 use Rattle.std.proofs.Props.{props}
 use Rattle.std.proofs.lemmas.Result.{err_from_is_err_and}
 use Rattle.sg_record.specs.Shown.{shown_change}
@@ -9,13 +9,14 @@ use Rattle.sg_actions.proofs.Accounting.{within_by, within_as}
 use Rattle.sg_actions.proofs.Calling.{said_any, said_log}
 use Rattle.sg_actions.proofs.Flags.{some_is}
 use Rattle.sg_actions.proofs.Led.{log_call, look_call}
-use Rattle.sg_actions.proofs.Counting.{looked_engine}
-use Rattle.sg_actions.proofs.GoneOff.{off_look, off_then, off_one, counts_err, counts_break}
+use Rattle.sg_actions.proofs.Counting.{looked_engine, looked_none}
+use Rattle.sg_actions.proofs.GoneOff.{off_look, off_then, off_one, counts_err, counts_break, counts_ok}
 use Rattle.sg_actions.proofs.Offing.{next_one, going_stays, said_less, shown_is, took_off}
 use Rattle.sg_actions.proofs.Ranged.{comp_in}
 use Rattle.sg_actions.proofs.ReadOff.{reads_next, read_next, off_can, can_prop}
 use Rattle.sg_actions.proofs.GoingOn.{can_rest}
 use Rattle.sg_actions.proofs.Wanted.{kept_open}
+use Rattle.sg_actions.proofs.Counted.{looked_two}
 use Rattle.sg_actions.proofs.acts.Acts.take_one_off.Goals as goal
 
 pub read-requires-clause-there : goal.read-requires-clause-there
@@ -142,3 +143,33 @@ invariant_of-self-in_default-clause-goes_on g c = can_rest (g.E.Engine.view c.re
 
 pub returns-clause-lower : goal.returns-clause-lower
 returns-clause-lower g c = c.in-Some.ensures.reads.lower
+
+pub returns-in_err-size-clause-counts : goal.returns-in_err-size-clause-counts
+returns-in_err-size-clause-counts g c = 
+    let p = err_from_is_err_and c.from_residual.result c.from_residual.ensures.1 in
+    counts_err {T = ℕ} c.from_residual.result c.in_err-size.field-0.0 p.0 (g.met.E.Engine.told_whole _) p.1 p.2 (looked_none (g.E.Engine.view c.args.self.now.engine) c.args.self.now.breaks) c.in_err-size.ensures.rests.counts
+
+pub returns-clause-counts : goal.returns-clause-counts
+returns-clause-counts g c = counts_ok _ (looked_two c.args.self.now.breaks c.in_ok-size.ensures.rests.counts c.in_ok-self.ensures.grows.counts)
+
+pub returns-in_err-size-clause-told : goal.returns-in_err-size-clause-told
+returns-in_err-size-clause-told g c = c.in_err-size.ensures.rests.counts.told
+
+pub returns-in_default-clause-told : goal.returns-in_default-clause-told
+returns-in_default-clause-told g c = c.in_ok-size.ensures.rests.counts.told
+
+pub returns-in_err-self-clause-told : goal.returns-in_err-self-clause-told
+returns-in_err-self-clause-told g c = λ told. c.in_ok-size.ensures.rests.counts.told (c.in_err-self.ensures.grows.counts.told told)
+
+pub returns-clause-told : goal.returns-clause-told
+returns-clause-told g c = λ told. c.in_ok-size.ensures.rests.counts.told (c.in_ok-self.ensures.grows.counts.told told)
+
+pub returns-in_err-size-clause-means : goal.returns-in_err-size-clause-means
+returns-in_err-size-clause-means g c = λ from m. c.in_err-size.ensures.means _ from m
+
+pub returns-in_default-clause-means : goal.returns-in_default-clause-means
+returns-in_default-clause-means g c = λ from m. c.in_ok-size.ensures.means _ from m
+
+pub returns-in_default-clause-goes : goal.returns-in_default-clause-goes
+returns-in_default-clause-goes g c = λ from m told kept begin more off.
+    off_look c.args.self.now.actor.txn.0 (led from (g.E.Engine.view c.args.self.now.engine)) (led from (g.E.Engine.view c.read.new.self)) _ off.taking.running.log (look_call from c.in_ok-size.ensures.rests (c.in_ok-size.ensures.looks _ from m)) told
