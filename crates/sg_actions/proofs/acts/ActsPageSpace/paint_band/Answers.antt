@@ -19,6 +19,9 @@ use Rattle.sg_actions.proofs.Ranged.{paint_in}
 use Rattle.sg_actions.proofs.PuttingBack.{stood_long}
 use Rattle.sg_space.specs.declared.space.SpaceFault.TheVariants.{Disk, LogEnd}
 use Rattle.sg_actions.proofs.GoingOn.{can_look, formed_change, can_change_by}
+use Rattle.std.proofs.lemmas.Result.{err_from_is_err_and}
+use Rattle.sg_actions.proofs.Counted.{acts_err, shown_counts, shown_break}
+use Rattle.sg_actions.proofs.Counting.{looked_none, looked_engine}
 use Rattle.sg_actions.proofs.acts.ActsPageSpace.paint_band.Goals as goal
 
 pub log_by-requires-clause-by : goal.log_by-requires-clause-by
@@ -118,3 +121,16 @@ returns-then-not-self-clause-counts g c = record { told = λ t. t; later = omega
 
 pub invariant_of-self-2-clause-goes_on : goal.invariant_of-self-2-clause-goes_on
 invariant_of-self-2-clause-goes_on g c = can_change_by g.E.Engine.recovers (g.E.Engine.means c.load_band.new.self) (g.E.Engine.means c.log_by.new.self) c.args.self.now.begun c.args.self.now.actor _ _ (λ told. ∥∥₁_elim (c.requires.means (c.in_ok-load_band.ensures.rests.counts.told told)) ∥∥₁_prop (λ x. ∣ (x.0, c.in_ok-load_band.ensures.means _ x.0 x.1.stands) ∣₁)) (record { grows = c.in_ok-self.ensures.grows; keeps = c.in_ok-self.ensures.means; logs = c.in_ok-self.ensures.logs; whole = g.met.E.Engine.told_whole _; full = g.met.E.Engine.full_failed _; now = g.met.E.Engine.now_is _ _; now' = g.met.E.Engine.now_is _ _; law = g.met.E.Engine.lawful _ _ }) refl refl (can_look c.args.self.now.begun c.args.self.now.actor (g.met.E.Engine.some c.args.self.now.engine) (λ t. (record { rests = c.load_band.ensures.rests; keeps = λ from m. c.load_band.ensures.means t from m; looks = λ from m. c.load_band.ensures.looks t from m; whole = g.met.E.Engine.told_whole _; full = g.met.E.Engine.full_failed _; now = λ from m. g.met.E.Engine.now_is _ t from m; now' = λ from m. g.met.E.Engine.now_is _ t from m })) c.args.self.now.goes_on)
+
+pub returns-then-not-may_paint-clause-counts : goal.returns-then-not-may_paint-clause-counts
+returns-then-not-may_paint-clause-counts g c = shown_break (g.E.Engine.limits (length c.args.self.now.maps.pages) (length c.args.self.now.maps.bands)) (g.E.Engine.limits (length c.args.self.now.maps.pages) (length c.args.self.now.maps.bands)) (g.E.Engine.view c.args.self.now.engine) (g.E.Engine.view c.args.self.now.engine) c.args.self.now.begun c.args.self.now.begun (g.E.Engine.view c.args.self.now.begun_at.value).now (g.E.Engine.view c.args.self.now.begun_at.value).now c.args.self.now.breaks c.count_break.new.breaks c.args.self.now.maps c.args.self.now.maps c.args.self.now.unfreed c.args.self.now.unfreed c.count_break.result c.count_break.ensures.answer (λ t. t) refl c.count_break.ensures.risen c.count_break.ensures.later
+
+pub returns-in_err-load_band-clause-counts : goal.returns-in_err-load_band-clause-counts
+returns-in_err-load_band-clause-counts g c = 
+    let p = err_from_is_err_and c.from_residual.result c.from_residual.ensures.1 in
+    shown_counts (g.E.Engine.limits (length c.args.self.now.maps.pages) (length c.args.self.now.maps.bands)) (g.E.Engine.limits (length c.args.self.now.maps.pages) (length c.args.self.now.maps.bands)) (g.E.Engine.view c.args.self.now.engine) (g.E.Engine.view c.load_band.new.self) c.args.self.now.begun c.args.self.now.begun (g.E.Engine.view c.args.self.now.begun_at.value).now (g.E.Engine.view c.args.self.now.begun_at.value).now c.args.self.now.breaks c.args.self.now.breaks c.args.self.now.maps c.args.self.now.maps c.args.self.now.unfreed c.args.self.now.unfreed c.from_residual.result (acts_err {T = Unit {0}} c.from_residual.result c.in_err-load_band.field-0.0 p.0 p.1 p.2 (g.met.E.Engine.told_whole _) (looked_none (g.E.Engine.view c.args.self.now.engine) c.args.self.now.breaks) c.in_err-load_band.ensures.rests.counts)
+
+pub returns-in_err-self-clause-counts : goal.returns-in_err-self-clause-counts
+returns-in_err-self-clause-counts g c = 
+    let p = err_from_is_err_and c.from_residual-in_err-self.result c.from_residual-in_err-self.ensures.1 in
+    shown_counts (g.E.Engine.limits (length c.args.self.now.maps.pages) (length c.args.self.now.maps.bands)) (g.E.Engine.limits (length c.args.self.now.maps.pages) (length c.args.self.now.maps.bands)) (g.E.Engine.view c.args.self.now.engine) (g.E.Engine.view c.log_by.new.self) c.args.self.now.begun c.args.self.now.begun (g.E.Engine.view c.args.self.now.begun_at.value).now (g.E.Engine.view c.args.self.now.begun_at.value).now c.args.self.now.breaks c.args.self.now.breaks c.args.self.now.maps c.args.self.now.maps c.args.self.now.unfreed c.args.self.now.unfreed c.from_residual-in_err-self.result (acts_err {T = ℕ} c.from_residual-in_err-self.result c.in_err-self.field-0.0 p.0 p.1 p.2 (g.met.E.Engine.told_whole _) (looked_engine c.args.self.now.breaks c.in_ok-load_band.ensures.rests.counts) c.in_err-self.ensures.grows.counts)
