@@ -25,3 +25,5 @@ pub mod PuttingBack
 pub mod WentOff
 pub mod Accounted
 pub mod Cutting
+pub mod Reads
+pub mod Writable

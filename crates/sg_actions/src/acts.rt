@@ -61,6 +61,7 @@ impl<E: Engine> Acts<E> {
     ghost use Rattle.std.specs.Prelude.{◌≡◌, false, IsTrue, IsFalse, Some, ◌≤◌, length};
     ghost use Rattle.sg_actions.specs.Rows.{at_rest};
     ghost use Rattle.sg_actions.specs.Taken.{is_there};
+    ghost use Rattle.sg_actions.specs.Writable.{MayWrite, MayPaint};
 
     /// Over an engine, with what is taken, nothing freed, and a row for each transaction that goes on or
     /// may begin. The system acts.
@@ -142,6 +143,25 @@ impl<E: Engine> Acts<E> {
         ensures { result ≡ is_there self.now.maps.bands self.now.unfreed.bands b.0 }
     {
         self.maps.band_taken(b).unwrap_or(false) && self.unfreed.band_taken(b).unwrap_or(false)
+    }
+
+    // Whether so many bytes of a band may be changed: it is taken, the open action hasn't freed it, they
+    // are a piece of it, and a record has room for its number.
+    fn may_write(&self, b: BandNo, at: u32, count: usize) -> bool
+        ensures yes { IsTrue result → MayWrite self.now.maps.bands self.now.unfreed.bands b.0 at count }
+        ensures no { MayWrite self.now.maps.bands self.now.unfreed.bands b.0 at count → IsTrue result }
+    {
+        self.has_band(b) && is_piece(at, count) && b.0 <= 65_535
+    }
+
+    // And whether by a range operation with this argument.
+    fn may_paint(&self, b: BandNo, at: u32, count: u32, position: u32, arg: &[u8]) -> bool
+        ensures yes { IsTrue result → MayPaint self.now.maps.bands self.now.unfreed.bands b.0 at count position arg.now }
+        ensures no { MayPaint self.now.maps.bands self.now.unfreed.bands b.0 at count position arg.now → IsTrue result }
+    {
+        count <= 8_192
+            && self.may_write(b, at, count as usize)
+            && is_paint(position, count, arg)
     }
 }
 
@@ -261,15 +281,8 @@ impl<E: Engine> PageSpace for Acts<E> {
         if !self.begun {
             return Err(SpaceFault::LogEnd);
         }
-        if !self.has_band(b) {
-            return Err(count_break(&mut self.breaks));
-        }
         let count = bytes.len();
-        if !is_piece(at, count) {
-            return Err(count_break(&mut self.breaks));
-        }
-        // a record has room for fewer bands
-        if b.0 > 65_535 {
+        if !self.may_write(b, at, count) {
             return Err(count_break(&mut self.breaks));
         }
         let mut before = [0u8; 8192];
@@ -301,19 +314,7 @@ impl<E: Engine> PageSpace for Acts<E> {
         if !self.begun {
             return Err(SpaceFault::LogEnd);
         }
-        if !self.has_band(b) {
-            return Err(count_break(&mut self.breaks));
-        }
-        if count > 8_192 {
-            return Err(count_break(&mut self.breaks));
-        }
-        if !is_piece(at, count as usize) {
-            return Err(count_break(&mut self.breaks));
-        }
-        if b.0 > 65_535 {
-            return Err(count_break(&mut self.breaks));
-        }
-        if !is_paint(position, count, arg) {
+        if !self.may_paint(b, at, count, position, arg) {
             return Err(count_break(&mut self.breaks));
         }
         let mut before = [0u8; 8192];

@@ -1,5 +1,8 @@
 // An action without an end is taken off.
-ghost use Rattle.std.specs.Prelude.{◌≡◌, ◌<◌};
+ghost use Rattle.std.specs.Prelude.{◌≡◌, ◌<◌, ℕ, IfSome, IfNone};
+ghost use Rattle.sg_record.specs.Changes.{Change as Changing};
+ghost use Rattle.sg_record.specs.Shown.{shown_change};
+ghost use Rattle.sg_actions.specs.Reads.{AreOfRecord, ReadsChange};
 
 use crate::acts::count_break;
 use crate::rows::{Actor, keep_row};
@@ -8,11 +11,33 @@ use crate::spelling::{change_in, comp_of, is_brief, is_number, tell_range};
 use crate::{Acts, Engine};
 use sg_base::{Lsn, TxnId};
 use sg_ops::Ops;
-use sg_record::{Rec, decode};
+use sg_record::{Change, Rec, decode};
 use sg_space::SpaceFault;
 
 // The bytes of the greatest record.
 const GREATEST: usize = 16_417;
+
+// The change of the record that these bytes are of, with the record before it, where it makes one, names
+// one below its own number, and a record has room for what takes the change off.
+fn read_change<'a>(bytes: &'a [u8], at: Lsn) -> Option<(Change<'a>, Lsn)>
+    ensures range { IfSome result (λ p. AreOfRecord bytes.now) }
+    ensures reads { IfSome result (λ p. ReadsChange bytes.now at (shown_change p.0) p.1) }
+    ensures none { IfNone result ((c : Changing) (previous : ℕ) → ReadsChange bytes.now at c previous → ⊥) }
+{
+    let Ok((r, _)) = decode(bytes) else {
+        return None;
+    };
+    let Some((change, prev)) = change_in(&r) else {
+        return None;
+    };
+    if prev >= at {
+        return None;
+    }
+    if !is_brief(&change) {
+        return None;
+    }
+    Some((change, prev))
+}
 
 impl<E: Engine> Acts<E> {
     ghost use Rattle.std.specs.Prelude.{◌≡◌, ◌≢◌, ◌<◌, ℕ, false, [], length, IfOk, OnOk};
@@ -47,18 +72,9 @@ impl<E: Engine> Acts<E> {
     {
         let mut text = [0u8; GREATEST];
         let size = self.engine.read(at, &mut text)?;
-        let Ok((r, _)) = decode(&text[..size]) else {
+        let Some((change, prev)) = read_change(&text[..size], at) else {
             return Err(count_break(&mut self.breaks));
         };
-        let Some((change, prev)) = change_in(&r) else {
-            return Err(count_break(&mut self.breaks));
-        };
-        if prev >= at {
-            return Err(count_break(&mut self.breaks));
-        }
-        if !is_brief(&change) {
-            return Err(count_break(&mut self.breaks));
-        }
         let record = Rec::PhysComp {
             txn: self.actor.txn,
             prev: self.actor.last,

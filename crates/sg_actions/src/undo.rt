@@ -1,10 +1,11 @@
 // The undo of a transaction.
-ghost use Rattle.std.specs.Prelude.{◌≡◌, option_map};
+ghost use Rattle.std.specs.Prelude.{◌≡◌, option_map, IfSome, IfNone};
 ghost use Rattle.sg_record.specs.Ranges.{IsRecord};
 ghost use Rattle.sg_record.specs.Shown.{shown, shown_change};
 ghost use Rattle.sg_actions.specs.PuttingBack.{shown_hop, shown_stood};
 ghost use Rattle.sg_actions.specs.Steps.{step_of};
-ghost use Rattle.sg_actions.specs.Undoing.{SeesBy, hop_in, stood_in, stood_by, is_of_bytes};
+ghost use Rattle.sg_actions.specs.Reads.{AreOfRecord, ReadsHop, ReadsSeen};
+ghost use Rattle.sg_actions.specs.Undoing.{Hop, SeesBy, hop_in, stood_in, stood_by, is_of_bytes};
 
 use crate::acts::count_break;
 use crate::rows::{Actor, keep_row, last_in};
@@ -81,6 +82,35 @@ fn hop_at<'a>(r: &Rec<'a>) -> Option<(Option<Change<'a>>, Lsn)>
         Rec::PhysComp { undo_next, .. } => Some((None, undo_next)),
         _ => None,
     }
+}
+
+// What an undo sees at the record that these bytes are of. The bytes of a note are handed out.
+fn read_seen(bytes: &[u8], into: &mut UndoNote) -> Option<Seen>
+    ensures { ReadsSeen bytes.now into.new result }
+{
+    let Ok((r, _)) = decode(bytes) else {
+        return None;
+    };
+    see(&r, into)
+}
+
+// What a way back over an action meets at the record that these bytes are of, where the way goes on at one
+// below its number.
+fn read_hop<'a>(bytes: &'a [u8], at: Lsn) -> Option<(Option<Change<'a>>, Lsn)>
+    ensures range { IfSome result (λ p. AreOfRecord bytes.now) }
+    ensures reads { IfSome result (λ p. ReadsHop bytes.now at (shown_hop p)) }
+    ensures none { IfNone result ((hop : Hop) → ReadsHop bytes.now at hop → ⊥) }
+{
+    let Ok((r, _)) = decode(bytes) else {
+        return None;
+    };
+    let Some((change, next)) = hop_at(&r) else {
+        return None;
+    };
+    if next >= at {
+        return None;
+    }
+    Some((change, next))
 }
 
 // The bytes that stood where a change wrote into a band, as ones to be written there, where it keeps some
@@ -162,10 +192,7 @@ impl<E: Engine> Acts<E> {
     {
         let mut text = [0u8; GREATEST];
         let size = self.engine.read(at, &mut text)?;
-        let Ok((r, _)) = decode(&text[..size]) else {
-            return Err(count_break(&mut self.breaks));
-        };
-        let Some(seen) = see(&r, into) else {
+        let Some(seen) = read_seen(&text[..size], into) else {
             return Err(count_break(&mut self.breaks));
         };
         Ok(seen)
@@ -297,15 +324,9 @@ impl<E: Engine> Acts<E> {
     {
         let mut text = [0u8; GREATEST];
         let size = self.engine.read(at, &mut text)?;
-        let Ok((r, _)) = decode(&text[..size]) else {
+        let Some((change, next)) = read_hop(&text[..size], at) else {
             return Err(count_break(&mut self.breaks));
         };
-        let Some((change, next)) = hop_at(&r) else {
-            return Err(count_break(&mut self.breaks));
-        };
-        if next >= at {
-            return Err(count_break(&mut self.breaks));
-        }
         let outside = map_bands(self.count, self.bands);
         let Some(part) = part_of(change, outside) else {
             return Ok(next);

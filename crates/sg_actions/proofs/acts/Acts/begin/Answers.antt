@@ -8,6 +8,8 @@ use Rattle.sg_actions.specs.Engine.{led}
 use Rattle.sg_actions.proofs.Led.{log_call}
 use Rattle.sg_actions.proofs.Calling.{said_log_any}
 use Rattle.sg_actions.proofs.GoingOn.{formed_begin, can_rest_told}
+use Rattle.std.proofs.lemmas.Result.{err_from_is_err_and}
+use Rattle.sg_actions.proofs.Counted.{engine_err, engine_ok}
 use Rattle.sg_actions.proofs.acts.Acts.begin.Goals as goal
 
 pub returns-clause-number : goal.returns-clause-number
@@ -47,3 +49,11 @@ log-requires-clause-can g c = λ t from m told. record { there = tt; fits = tt; 
 
 pub invariant_of-self-2-clause-goes_on : goal.invariant_of-self-2-clause-goes_on
 invariant_of-self-2-clause-goes_on g c = can_rest_told (g.E.Engine.view c.args.self.now.engine) (g.E.Engine.view c.log.new.self) _ _ c.log.ensures.grows.counts.told c.requires.quiet
+
+pub returns-in_err-log-clause-counts : goal.returns-in_err-log-clause-counts
+returns-in_err-log-clause-counts g c = 
+    let p = err_from_is_err_and c.from_residual.result c.from_residual.ensures.1 in
+    engine_err {T = ℕ} c.from_residual.result c.in_err-log.field-0.0 p.0 p.1 p.2 c.in_err-log.ensures.grows.counts
+
+pub returns-clause-counts : goal.returns-clause-counts
+returns-clause-counts g c = engine_ok {T = ℕ} _ c.in_ok-log.ensures.grows.counts

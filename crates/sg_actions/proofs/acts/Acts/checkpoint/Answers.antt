@@ -1,5 +1,5 @@
 use Rattle.sg_actions.specs.Growing.{moments_same, grows_same, moments_then}
-use Rattle.std.proofs.lemmas.Result.{on_ok_weaker}
+use Rattle.std.proofs.lemmas.Result.{on_ok_weaker, err_from_is_err_and}
 use Rattle.std.proofs.Common.{◌≡◌, ◌*◌, ℕ, List, refl, ap, subst, ◌∙◌, length, take, min, length-take, IsPermutation, arith}
 use Rattle.std.proofs.lemmas.List.{take_min}
 use Rattle.std.specs.List.Sorted.{IsNonDecreasingBy}
@@ -11,11 +11,12 @@ use Rattle.sg_actions.proofs.Accounting.{within_by}
 use Rattle.sg_actions.proofs.Calling.{said_any}
 use Rattle.sg_actions.proofs.Closing.{on_ok2}
 use Rattle.sg_actions.proofs.Handing.{forced_hands, long_checkpoint}
-use Rattle.sg_actions.proofs.Counting.{looked_break, looked_none, stayed_then, kept_looked}
+use Rattle.sg_actions.proofs.Counting.{looked_break, looked_none, stayed_then, kept_looked, looked_engine}
 use Rattle.sg_actions.proofs.Led.{look_call}
 use Rattle.sg_actions.proofs.Pointing.{mark_stays, said_mark}
 use Rattle.sg_actions.proofs.Rowed.{length_taken, rows_sized, spelled_is, rows_fit, take_short}
 use Rattle.sg_actions.proofs.GoingOn.{can_rest_told}
+use Rattle.sg_actions.proofs.Counted.{acts_err, acts_last}
 use Rattle.sg_actions.proofs.acts.Acts.checkpoint.Goals as goal
 
 pub checkpoint-requires-clause-rows : goal.checkpoint-requires-clause-rows
@@ -112,3 +113,11 @@ returns-clause-names g c =
       rising = subst (λ (m : ℕ). IsNonDecreasingBy (λ r. r.txn.0) (take m c.in_order-ordered.result)) long ordered.rising;
       named = keeps (k.grows.counts.tells told) _ (subst (g.E.Engine.names _) is (k.names told));
     })) c.force.ensures.names
+
+pub returns-in_err-checkpoint-clause-counts : goal.returns-in_err-checkpoint-clause-counts
+returns-in_err-checkpoint-clause-counts g c = 
+    let p = err_from_is_err_and c.from_residual.result c.from_residual.ensures.1 in
+    acts_err {T = ℕ} c.from_residual.result c.in_err-checkpoint.field-0.0 p.0 p.1 p.2 (g.met.E.Engine.told_whole _) (looked_none (g.E.Engine.view c.args.self.now.engine) c.args.self.now.breaks) c.in_err-checkpoint.ensures.grows.counts
+
+pub returns-clause-counts : goal.returns-clause-counts
+returns-clause-counts g c = acts_last c.force.result (g.met.E.Engine.told_whole _) (looked_engine c.args.self.now.breaks c.in_ok-checkpoint.ensures.grows.counts) c.force.ensures.rests.counts

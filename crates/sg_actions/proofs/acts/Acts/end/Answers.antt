@@ -1,4 +1,4 @@
-use Rattle.std.proofs.Common.{◌≡◌, sym, ap, ◌∙◌, List, length, refl}
+use Rattle.std.proofs.Common.{◌≡◌, sym, ap, ◌∙◌, List, length, refl, ℕ}
 use Rattle.sg_actions.proofs.Accounting.{within_by}
 use Rattle.sg_actions.proofs.Closing.{closed, done_appends, has_gone, fails}
 use Rattle.sg_actions.proofs.InRange.{end_in}
@@ -13,6 +13,9 @@ use Rattle.sg_actions.specs.Engine.{led}
 use Rattle.sg_actions.proofs.Led.{log_call}
 use Rattle.sg_actions.proofs.Calling.{said_log_any}
 use Rattle.sg_actions.proofs.GoingOn.{formed_done, can_rest_told}
+use Rattle.std.proofs.lemmas.Result.{err_from_is_err_and}
+use Rattle.sg_actions.proofs.Counted.{acts_err}
+use Rattle.sg_actions.proofs.Counting.{looked_none, looked_ok, looked_engine}
 use Rattle.sg_actions.proofs.acts.Acts.end.Goals as goal
 
 pub log-requires-clause-range : goal.log-requires-clause-range
@@ -56,3 +59,11 @@ log-requires-clause-can g c = λ t from m told. record { there = tt; fits = tt; 
 
 pub invariant_of-self-2-clause-goes_on : goal.invariant_of-self-2-clause-goes_on
 invariant_of-self-2-clause-goes_on g c = can_rest_told (g.E.Engine.view c.args.self.now.engine) (g.E.Engine.view c.log.new.self) _ _ c.log.ensures.grows.counts.told c.requires.quiet
+
+pub returns-in_err-log-clause-counts : goal.returns-in_err-log-clause-counts
+returns-in_err-log-clause-counts g c = 
+    let p = err_from_is_err_and c.from_residual.result c.from_residual.ensures.1 in
+    acts_err {T = ℕ} c.from_residual.result c.in_err-log.field-0.0 p.0 p.1 p.2 (g.met.E.Engine.told_whole _) (looked_none (g.E.Engine.view c.args.self.now.engine) c.args.self.now.breaks) c.in_err-log.ensures.grows.counts
+
+pub returns-clause-counts : goal.returns-clause-counts
+returns-clause-counts g c = looked_ok _ (looked_engine c.args.self.now.breaks c.in_ok-log.ensures.grows.counts)

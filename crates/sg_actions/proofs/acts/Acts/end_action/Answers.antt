@@ -1,4 +1,4 @@
-use Rattle.std.proofs.Common.{refl}
+use Rattle.std.proofs.Common.{refl, ℕ}
 use Rattle.std.proofs.Common.{ℕ, length, sym, ap, subst, List, Bool, arith}
 use Rattle.sg_actions.specs.Calls.{AreSettled}
 use Rattle.sg_actions.specs.Led.{HasLogged}
@@ -11,6 +11,8 @@ use Rattle.sg_actions.proofs.Led.{log_call}
 use Rattle.sg_actions.proofs.Calling.{said_log_any}
 use Rattle.sg_actions.proofs.Settled.{said_settled}
 use Rattle.sg_actions.proofs.GoingOn.{formed_top}
+use Rattle.std.proofs.lemmas.Result.{err_from_is_err_and}
+use Rattle.sg_actions.proofs.Counted.{engine_err, engine_ok}
 use Rattle.sg_actions.proofs.acts.Acts.end_action.Goals as goal
 
 pub returns-clause-did : goal.returns-clause-did
@@ -45,3 +47,11 @@ invariant_of-self-2-clause-unbroken g c = λ told. c.args.self.now.unbroken (c.l
 
 pub log-requires-clause-can : goal.log-requires-clause-can
 log-requires-clause-can g c = λ t from m told. record { there = tt; fits = tt; known = tt; formed = formed_top (g.E.Engine.view c.args.self.now.engine) c.args.self.now.rows.items c.args.self.now.actor _ c.requires.chain told; means = λ u. u }
+
+pub returns-in_err-lsn-clause-counts : goal.returns-in_err-lsn-clause-counts
+returns-in_err-lsn-clause-counts g c = 
+    let p = err_from_is_err_and c.from_residual.result c.from_residual.ensures.1 in
+    engine_err {T = ℕ} c.from_residual.result c.in_err-lsn.field-0.0 p.0 p.1 p.2 c.in_err-lsn.ensures.grows.counts
+
+pub returns-clause-counts : goal.returns-clause-counts
+returns-clause-counts g c = engine_ok {T = ℕ} _ c.in_ok-lsn.ensures.grows.counts

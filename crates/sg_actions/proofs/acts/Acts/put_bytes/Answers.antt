@@ -12,9 +12,11 @@ use Rattle.sg_actions.proofs.Accounting.{within_by}
 use Rattle.sg_actions.proofs.Calling.{later_look, later_log_as, said_any, said_log_any}
 use Rattle.sg_actions.proofs.InRange.{write_in}
 use Rattle.sg_actions.proofs.Led.{log_call, look_call, logged_after}
-use Rattle.sg_actions.proofs.PuttingBack.{put_bytes, stood_long}
+use Rattle.sg_actions.proofs.PuttingBack.{put_bytes, stood_long, err_engine, err_is}
 use Rattle.sg_actions.proofs.Writing.{write_on}
 use Rattle.sg_actions.proofs.GoingOn.{can_look, formed_change, can_change}
+use Rattle.std.proofs.lemmas.Result.{err_from_is_err_and}
+use Rattle.sg_actions.proofs.Counting.{looked_ok, looked_then, looked_engine, looked_err}
 use Rattle.sg_actions.proofs.acts.Acts.put_bytes.Goals as goal
 
 clash : false ≡ true → ⊥
@@ -95,3 +97,16 @@ log-requires-clause-can g c = λ t from m told1.
 
 pub invariant_of-self-2-clause-goes_on : goal.invariant_of-self-2-clause-goes_on
 invariant_of-self-2-clause-goes_on g c = can_change g.E.Engine.recovers (g.E.Engine.means c.load_band.new.self) (g.E.Engine.means c.log.new.self) c.args.self.now.begun c.args.self.now.actor _ _ (g.met.E.Engine.some c.load_band.new.self) (λ t. (record { grows = c.in_ok-self.ensures.grows; keeps = λ from m. c.in_ok-self.ensures.means t from m; logs = λ from m. c.in_ok-self.ensures.logs t from m; whole = g.met.E.Engine.told_whole _; full = g.met.E.Engine.full_failed _; now = λ from m. g.met.E.Engine.now_is _ t from m; now' = λ from m. g.met.E.Engine.now_is _ t from m; law = λ from m. g.met.E.Engine.lawful _ t from m })) refl refl (can_look c.args.self.now.begun c.args.self.now.actor (g.met.E.Engine.some c.args.self.now.engine) (λ t. (record { rests = c.load_band.ensures.rests; keeps = λ from m. c.load_band.ensures.means t from m; looks = λ from m. c.load_band.ensures.looks t from m; whole = g.met.E.Engine.told_whole _; full = g.met.E.Engine.full_failed _; now = λ from m. g.met.E.Engine.now_is _ t from m; now' = λ from m. g.met.E.Engine.now_is _ t from m })) c.args.self.now.goes_on)
+
+pub returns-in_err-load_band-clause-counts : goal.returns-in_err-load_band-clause-counts
+returns-in_err-load_band-clause-counts g c =
+    let p = err_from_is_err_and c.from_residual.result c.from_residual.ensures.1 in
+    err_is {T = Unit {0}} c.from_residual.result c.in_err-load_band.field-0.0 p.0 p.1 p.2 (err_engine c.args.self.now.breaks (g.met.E.Engine.told_whole _) c.in_err-load_band.ensures.rests.counts)
+
+pub returns-in_err-self-clause-counts : goal.returns-in_err-self-clause-counts
+returns-in_err-self-clause-counts g c =
+    let p = err_from_is_err_and c.from_residual-in_err-self.result c.from_residual-in_err-self.ensures.1 in
+    err_is {T = ℕ} c.from_residual-in_err-self.result c.in_err-self.field-0.0 p.0 p.1 p.2 (looked_err (looked_engine c.args.self.now.breaks c.in_ok-load_band.ensures.rests.counts) (err_engine c.args.self.now.breaks (g.met.E.Engine.told_whole _) c.in_err-self.ensures.grows.counts))
+
+pub returns-clause-counts : goal.returns-clause-counts
+returns-clause-counts g c = looked_ok _ (looked_then {T = ℕ} {x = c.in_ok-self.field-0} (looked_engine c.args.self.now.breaks c.in_ok-load_band.ensures.rests.counts) (looked_ok c.in_ok-self.field-0 (looked_engine c.args.self.now.breaks c.in_ok-self.ensures.grows.counts)))

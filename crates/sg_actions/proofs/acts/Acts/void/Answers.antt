@@ -1,4 +1,4 @@
-use Rattle.std.proofs.Common.{refl}
+use Rattle.std.proofs.Common.{refl, ℕ}
 use Rattle.sg_actions.proofs.Accounting.{within_by}
 use Rattle.sg_actions.proofs.InRange.{top_void_in}
 use Rattle.sg_actions.specs.Engine.{led}
@@ -6,6 +6,8 @@ use Rattle.sg_actions.proofs.Led.{log_call}
 use Rattle.sg_actions.proofs.GoneOff.{off_void}
 use Rattle.sg_actions.proofs.Calling.{said_log_any}
 use Rattle.sg_actions.proofs.GoingOn.{formed_void}
+use Rattle.std.proofs.lemmas.Result.{err_from_is_err_and}
+use Rattle.sg_actions.proofs.Counted.{engine_err, engine_ok}
 use Rattle.sg_actions.proofs.acts.Acts.void.Goals as goal
 
 pub log-requires-clause-range : goal.log-requires-clause-range
@@ -30,3 +32,11 @@ returns-clause-goes g c = λ t from m told kept begin h none.
 
 pub log-requires-clause-can : goal.log-requires-clause-can
 log-requires-clause-can g c = λ t from m told. record { there = tt; fits = tt; known = tt; formed = formed_void (g.E.Engine.view c.args.self.now.engine) c.args.self.now.actor c.requires.over told; means = λ u. u }
+
+pub returns-in_err-lsn-clause-counts : goal.returns-in_err-lsn-clause-counts
+returns-in_err-lsn-clause-counts g c = 
+    let p = err_from_is_err_and c.from_residual.result c.from_residual.ensures.1 in
+    engine_err {T = ℕ} c.from_residual.result c.in_err-lsn.field-0.0 p.0 p.1 p.2 c.in_err-lsn.ensures.grows.counts
+
+pub returns-clause-counts : goal.returns-clause-counts
+returns-clause-counts g c = engine_ok {T = ℕ} _ c.in_ok-lsn.ensures.grows.counts

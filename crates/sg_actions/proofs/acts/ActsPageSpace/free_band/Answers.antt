@@ -1,7 +1,8 @@
-use Rattle.std.proofs.Common.{Some, true, sym, length}
+use Rattle.std.proofs.Common.{Some, true, sym, length, arith, refl}
 use Rattle.sg_actions.proofs.Freeing.{there_flag}
 use Rattle.sg_actions.specs.Onward.{later_same}
 use Rattle.sg_actions.proofs.Untold.{none_there}
+use Rattle.sg_actions.proofs.Counted.{shown_break}
 use Rattle.sg_actions.proofs.acts.ActsPageSpace.free_band.Goals as goal
 
 pub free_band-requires : goal.free_band-requires
@@ -12,3 +13,9 @@ returns-clause-later g c = λ t. later_same {strict = true} g.E.Engine.recovers 
 
 pub invariant_of-self-clause-unbroken : goal.invariant_of-self-clause-unbroken
 invariant_of-self-clause-unbroken g c = λ told. absurd (none_there c.args.self.now.maps.bands c.args.self.now.unfreed.bands (λ n. Some ((g.E.Engine.view c.args.self.now.engine).now.bands n)) c.args.b.0 (sym c.if-not-has_band.ensures) (c.requires told))
+
+pub returns-then-not-has_band-clause-counts : goal.returns-then-not-has_band-clause-counts
+returns-then-not-has_band-clause-counts g c = shown_break (g.E.Engine.limits (length c.args.self.now.maps.pages) (length c.args.self.now.maps.bands)) (g.E.Engine.limits (length c.args.self.now.maps.pages) (length c.args.self.now.maps.bands)) (g.E.Engine.view c.args.self.now.engine) (g.E.Engine.view c.args.self.now.engine) c.args.self.now.begun c.args.self.now.begun (g.E.Engine.view c.args.self.now.begun_at.value).now (g.E.Engine.view c.args.self.now.begun_at.value).now c.args.self.now.breaks c.count_break.new.breaks c.args.self.now.maps c.args.self.now.maps c.args.self.now.unfreed c.args.self.now.unfreed c.count_break.result c.count_break.ensures.answer (λ t. t) refl c.count_break.ensures.risen c.count_break.ensures.later
+
+pub returns-clause-counts : goal.returns-clause-counts
+returns-clause-counts g c = record { told = λ t. t; later = omega arith; quiet = refl; disk = tt; log_end = tt }

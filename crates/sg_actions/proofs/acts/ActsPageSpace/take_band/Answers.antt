@@ -122,10 +122,7 @@ returns-in_err-fill-clause-later g c = λ (u : Table). failed_strictly c.in_err-
     (first_later (g.E.Engine.view c.args.self.now.begun_at.value).now c.args.self.now.rows.items c.if-not-self.false (record { logs = λ t. (record { grows = c.in_err-fill.ensures.grows; keeps = λ from m. c.in_err-fill.ensures.means t from m; logs = λ from m. c.in_err-fill.ensures.logs t from m; whole = g.met.E.Engine.told_whole _; full = g.met.E.Engine.full_failed _; now = λ from m. g.met.E.Engine.now_is _ t from m; now' = λ from m. g.met.E.Engine.now_is _ t from m; law = λ from m. g.met.E.Engine.lawful _ t from m }); range = c.in_err-fill.ensures.range; some = g.met.E.Engine.some c.args.self.now.engine; wide = λ t from m. g.met.E.Engine.bands_whole _ t from m }) tt (first_in (g.E.Engine.limits (length c.args.self.now.maps.pages) (length c.args.self.now.maps.bands)) (g.E.Engine.view c.args.self.now.engine) c.args.self.now.maps c.fill.new.self.maps c.take_band-b.result.0 c.take_band-b.ensures.least.free (ap (λ (m : Maps). m.bands) c.in_err-fill.ensures.maps ∙ c.take_band-b.ensures.bands) (ap (λ (m : Maps). m.pages) c.in_err-fill.ensures.maps ∙ c.take_band-b.ensures.pages)) u))))
 
 pub returns-in_err-fill-clause-means : goal.returns-in_err-fill-clause-means
-returns-in_err-fill-clause-means g c = λ (u : Table). by_later (subst (λ (rs : List Row). Later g.E.Engine.recovers (g.E.Engine.limits (length c.args.self.now.maps.pages) (length c.args.self.now.maps.bands)) u (moment (g.E.Engine.view c.args.self.now.engine) (g.E.Engine.means c.args.self.now.engine) (g.E.Engine.view c.args.self.now.begun_at.value).now c.args.self.now.maps c.args.self.now.rows.items c.args.self.now.actor c.args.self.now.begun) (moment (g.E.Engine.view c.fill.new.self.engine) (g.E.Engine.means c.fill.new.self.engine) (g.E.Engine.view c.fill.new.self.begun_at.value).now c.fill.new.self.maps rs c.fill.new.self.actor c.fill.new.self.begun)) (sym c.in_err-fill.ensures.rows)
-    (subst (λ (b : Bool). Later g.E.Engine.recovers (g.E.Engine.limits (length c.args.self.now.maps.pages) (length c.args.self.now.maps.bands)) u (moment (g.E.Engine.view c.args.self.now.engine) (g.E.Engine.means c.args.self.now.engine) (g.E.Engine.view c.args.self.now.begun_at.value).now c.args.self.now.maps c.args.self.now.rows.items c.args.self.now.actor c.args.self.now.begun) (moment (g.E.Engine.view c.fill.new.self.engine) (g.E.Engine.means c.fill.new.self.engine) (g.E.Engine.view c.fill.new.self.begun_at.value).now c.fill.new.self.maps c.args.self.now.rows.items c.fill.new.self.actor b)) (sym c.in_err-fill.ensures.begun)
-    (subst (λ (x : Snapshot g.row.E.Denot). Later g.E.Engine.recovers (g.E.Engine.limits (length c.args.self.now.maps.pages) (length c.args.self.now.maps.bands)) u (moment (g.E.Engine.view c.args.self.now.engine) (g.E.Engine.means c.args.self.now.engine) (g.E.Engine.view c.args.self.now.begun_at.value).now c.args.self.now.maps c.args.self.now.rows.items c.args.self.now.actor c.args.self.now.begun) (moment (g.E.Engine.view c.fill.new.self.engine) (g.E.Engine.means c.fill.new.self.engine) (g.E.Engine.view x.value).now c.fill.new.self.maps c.args.self.now.rows.items c.fill.new.self.actor c.args.self.now.begun)) (sym c.in_err-fill.ensures.begun_at)
-    (first_later (g.E.Engine.view c.args.self.now.begun_at.value).now c.args.self.now.rows.items c.if-not-self.false (record { logs = λ t. (record { grows = c.in_err-fill.ensures.grows; keeps = λ from m. c.in_err-fill.ensures.means t from m; logs = λ from m. c.in_err-fill.ensures.logs t from m; whole = g.met.E.Engine.told_whole _; full = g.met.E.Engine.full_failed _; now = λ from m. g.met.E.Engine.now_is _ t from m; now' = λ from m. g.met.E.Engine.now_is _ t from m; law = λ from m. g.met.E.Engine.lawful _ t from m }); range = c.in_err-fill.ensures.range; some = g.met.E.Engine.some c.args.self.now.engine; wide = λ t from m. g.met.E.Engine.bands_whole _ t from m }) tt (first_in (g.E.Engine.limits (length c.args.self.now.maps.pages) (length c.args.self.now.maps.bands)) (g.E.Engine.view c.args.self.now.engine) c.args.self.now.maps c.fill.new.self.maps c.take_band-b.result.0 c.take_band-b.ensures.least.free (ap (λ (m : Maps). m.bands) c.in_err-fill.ensures.maps ∙ c.take_band-b.ensures.bands) (ap (λ (m : Maps). m.pages) c.in_err-fill.ensures.maps ∙ c.take_band-b.ensures.pages)) u))))
+returns-in_err-fill-clause-means g c = λ (u : Table). by_later (returns-in_err-fill-clause-later g c u)
 
 pub returns-in_err-fill-2-clause-later : goal.returns-in_err-fill-2-clause-later
 returns-in_err-fill-2-clause-later g c = λ (u : Table). let k = c.in_err-fill-2.ensures in
@@ -137,13 +134,7 @@ returns-in_err-fill-2-clause-later g c = λ (u : Table). let k = c.in_err-fill-2
     (next_later (g.E.Engine.view c.args.self.now.begun_at.value).now c.args.self.now.rows.items c.if-not-self.false (record { logs = λ t. (record { grows = c.in_err-fill-2.ensures.grows; keeps = λ from m. c.in_err-fill-2.ensures.means t from m; logs = λ from m. c.in_err-fill-2.ensures.logs t from m; whole = g.met.E.Engine.told_whole _; full = g.met.E.Engine.full_failed _; now = λ from m. g.met.E.Engine.now_is _ t from m; now' = λ from m. g.met.E.Engine.now_is _ t from m; law = λ from m. g.met.E.Engine.lawful _ t from m }); range = c.in_err-fill-2.ensures.range; some = g.met.E.Engine.some c.fills.self.engine; wide = λ t from m. g.met.E.Engine.bands_whole _ t from m }) tt i.filling u)))))
 
 pub returns-in_err-fill-2-clause-means : goal.returns-in_err-fill-2-clause-means
-returns-in_err-fill-2-clause-means g c = λ (u : Table). by_later (let k = c.in_err-fill-2.ensures in
-    let i = c.fills.invariant in
-    subst (λ (m : Maps). Later g.E.Engine.recovers (g.E.Engine.limits (length c.args.self.now.maps.pages) (length c.args.self.now.maps.bands)) u (moment (g.E.Engine.view c.args.self.now.engine) (g.E.Engine.means c.args.self.now.engine) (g.E.Engine.view c.args.self.now.begun_at.value).now c.args.self.now.maps c.args.self.now.rows.items c.args.self.now.actor c.args.self.now.begun) (moment (g.E.Engine.view c.fill-in-fills.new.self.engine) (g.E.Engine.means c.fill-in-fills.new.self.engine) (g.E.Engine.view c.fill-in-fills.new.self.begun_at.value).now m c.fill-in-fills.new.self.rows.items c.fill-in-fills.new.self.actor c.fill-in-fills.new.self.begun)) (sym k.maps)
-    (subst (λ (rs : List Row). Later g.E.Engine.recovers (g.E.Engine.limits (length c.args.self.now.maps.pages) (length c.args.self.now.maps.bands)) u (moment (g.E.Engine.view c.args.self.now.engine) (g.E.Engine.means c.args.self.now.engine) (g.E.Engine.view c.args.self.now.begun_at.value).now c.args.self.now.maps c.args.self.now.rows.items c.args.self.now.actor c.args.self.now.begun) (moment (g.E.Engine.view c.fill-in-fills.new.self.engine) (g.E.Engine.means c.fill-in-fills.new.self.engine) (g.E.Engine.view c.fill-in-fills.new.self.begun_at.value).now c.fills.self.maps rs c.fill-in-fills.new.self.actor c.fill-in-fills.new.self.begun)) (sym (k.rows ∙ i.rows))
-    (subst (λ (b : Bool). Later g.E.Engine.recovers (g.E.Engine.limits (length c.args.self.now.maps.pages) (length c.args.self.now.maps.bands)) u (moment (g.E.Engine.view c.args.self.now.engine) (g.E.Engine.means c.args.self.now.engine) (g.E.Engine.view c.args.self.now.begun_at.value).now c.args.self.now.maps c.args.self.now.rows.items c.args.self.now.actor c.args.self.now.begun) (moment (g.E.Engine.view c.fill-in-fills.new.self.engine) (g.E.Engine.means c.fill-in-fills.new.self.engine) (g.E.Engine.view c.fill-in-fills.new.self.begun_at.value).now c.fills.self.maps c.args.self.now.rows.items c.fill-in-fills.new.self.actor b)) (sym (k.begun ∙ i.begun))
-    (subst (λ (x : Snapshot g.row.E.Denot). Later g.E.Engine.recovers (g.E.Engine.limits (length c.args.self.now.maps.pages) (length c.args.self.now.maps.bands)) u (moment (g.E.Engine.view c.args.self.now.engine) (g.E.Engine.means c.args.self.now.engine) (g.E.Engine.view c.args.self.now.begun_at.value).now c.args.self.now.maps c.args.self.now.rows.items c.args.self.now.actor c.args.self.now.begun) (moment (g.E.Engine.view c.fill-in-fills.new.self.engine) (g.E.Engine.means c.fill-in-fills.new.self.engine) (g.E.Engine.view x.value).now c.fills.self.maps c.args.self.now.rows.items c.fill-in-fills.new.self.actor c.args.self.now.begun)) (sym (k.begun_at ∙ i.begun_at))
-    (next_later (g.E.Engine.view c.args.self.now.begun_at.value).now c.args.self.now.rows.items c.if-not-self.false (record { logs = λ t. (record { grows = c.in_err-fill-2.ensures.grows; keeps = λ from m. c.in_err-fill-2.ensures.means t from m; logs = λ from m. c.in_err-fill-2.ensures.logs t from m; whole = g.met.E.Engine.told_whole _; full = g.met.E.Engine.full_failed _; now = λ from m. g.met.E.Engine.now_is _ t from m; now' = λ from m. g.met.E.Engine.now_is _ t from m; law = λ from m. g.met.E.Engine.lawful _ t from m }); range = c.in_err-fill-2.ensures.range; some = g.met.E.Engine.some c.fills.self.engine; wide = λ t from m. g.met.E.Engine.bands_whole _ t from m }) tt i.filling u)))))
+returns-in_err-fill-2-clause-means g c = λ (u : Table). by_later (returns-in_err-fill-2-clause-later g c u)
 
 pub fill-requires-clause-there : goal.fill-requires-clause-there
 fill-requires-clause-there g c = λ told. let below = slice_get_within c.args.self.now.maps.bands c.take_band-b.result.0 false c.take_band-b.ensures.least.free in let w = (c.args.self.now.within told).bands in omega (arith, below, w)
