@@ -1,4 +1,4 @@
-use Rattle.std.proofs.Common.{◌≡◌, inl, ◌++◌, [], length, OnOk, sym, ◌∙◌, ap, subst, ℕ, Some, List, le_trans}
+use Rattle.std.proofs.Common.{◌≡◌, inl, ◌++◌, [], length, OnOk, Err, sym, ◌∙◌, ap, subst, ℕ, Some, List, le_trans}
 use Rattle.std.proofs.lemmas.Result.{on_ok_weaker, err_from_is_err_and}
 use Rattle.sg_base.specs.declared.area.Area.TheVariants.{Home}
 use Rattle.sg_disk.specs.Disk.{Image, Part, LeavesOnly}
@@ -115,7 +115,7 @@ returns-in_err-flush_pages g c =
           force_then_pages (geometry_of s) s.slots.items s.wins s.frames s.shelf.apart v w c.args.log.now now ds ps apart same c.in-Ok.ensures.log after backed below z
           (c.force.ensures.any_moment ds ps told holds) (all.moments told there);
       later = le_trans c.force.ensures.later all.later;
-      heeded = tt;
+      heeded = heeds_then {U = ℕ} {T = Unit {0}} 0 (Err c.in_err-flush_pages.field-0.0) v w z c.in-Ok.ensures.heeded failed.heeded;
       kept = le_trans c.force.ensures.kept all.handed;
       grown = grown_more c.args.log.now now v w z c.force.ensures.grown all.handed;
       failed = risen_more v.faults w.faults z.faults c.force.ensures.later failed.failed;
