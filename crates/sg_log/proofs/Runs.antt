@@ -24,6 +24,9 @@ reads_more {v = v} {w = w} a b = record {
 }
 
 -- a fault of a later call
+pub risen_later : (before mid now : ℕ) → before ≤ mid → HasRisen mid now → HasRisen before now
+risen_later before mid now le rose = λ top. let later = rose top in omega (arith, later, le)
+
 pub failed_later : {T E : Type 0} (before mid now : ℕ) (r : Result T E) → before ≤ mid → OnErr r (HasRisen mid now) → OnErr r (HasRisen before now)
 failed_later before mid now (Ok x) le rose = tt
-failed_later before mid now (Err e) le rose = λ top. let later = rose top in omega arith
+failed_later before mid now (Err e) le rose = risen_later before mid now le rose

@@ -34,6 +34,16 @@ on_told_weaker (Err Disk) P Q f p = tt
 on_told_weaker (Err (Damaged n)) P Q f p = f p
 on_told_weaker (Err Memory) P Q f p = f p
 
+-- what holds behind a refusal, whatever the call would have answered
+pub told_as : (T U : Type 0) (e : PoolFault) (P : Type 0) → OnTold {T = T} (Err e) P → OnTold {T = U} (Err e) P
+told_as T U Disk P p = tt
+told_as T U (Damaged n) P p = p
+told_as T U Memory P p = p
+
+-- nothing more is told once the disk failed
+pub disk_told : (T : Type 0) (e : PoolFault) (P : Type 0) → e ≡ Disk → OnTold {T = T} (Err e) P
+disk_told T e P is = subst (λ (f : PoolFault). OnTold {T = T} (Err f) P) (sym is) tt
+
 pub on_err : {T E P : Type 0} (r : Result T E) → P → OnErr r P
 on_err (Ok x) p = tt
 on_err (Err e) p = p

@@ -4,12 +4,15 @@ use Rattle.std.specs.Prelude.{All}
 use Rattle.std.specs.List.Sorted.{IsNonDecreasingBy}
 use Rattle.std.proofs.lemmas.Bool.{cases_eq, cases_lt}
 use Rattle.std.proofs.lemmas.List.{take-append-drop, take_all, get_or_default}
+use Rattle.std.proofs.lemmas.List.Elements.{All-take, All-drop}
 use Rattle.std.proofs.Math.Seq.{take-append-add}
 use Rattle.sg_base.specs.declared.area.Area.{Area}
 use Rattle.sg_disk.specs.Disk.{View}
 use Rattle.sg_log.specs.Held.{Tail}
 use Rattle.sg_ops.specs.Table.{Table}
 use Rattle.sg_redo.specs.declared.place.Place.{Place}
+use Rattle.sg_redo.specs.Places.{change_at, IsKnown}
+use Rattle.sg_redo.specs.Units.{AreKnown}
 use Rattle.sg_pool.specs.declared.fault.PoolFault.{PoolFault}
 use Rattle.sg_pool.specs.declared.pool.Pool.{Pool}
 use Rattle.sg_pool.specs.Pooled.{sizes}
@@ -37,6 +40,31 @@ take_get n k xs d lt =
 -- all places from one on
 pub rest_all : (places : List Place) (from : ℕ) → take (length places - from) (drop from places) ≡ drop from places
 rest_all places from = take_all (length places - from) (drop from places) (let size = length-drop from places in omega (arith, size))
+
+-- what holds of each place holds of those of a part, and a part is no longer than all
+module _ (places : List Place) (n from : ℕ) where
+  pub part_all : (P : Place → Type 0) → All P places → All P (take n (drop from places))
+  part_all P all = All-take P n (drop from places) (All-drop P from places all)
+
+  pub part_known : (t : Table) (text : List ℕ) → AreKnown t text places → AreKnown t text (take n (drop from places))
+  part_known t text = part_all (λ p. IsKnown t (change_at text p.at))
+
+  pub part_few : (most : ℕ) → length places < most → length (take n (drop from places)) < most
+  part_few most few = let size = length-take n (drop from places) in let rest = length-drop from places in omega (arith, size, rest, few)
+
+-- the places from one on to another: so many, and what holds at each of their numbers holds of each
+module _ (places : List Place) (from to : ℕ) where
+  pub span_some : from < to → to ≤ length places → 0 < length (take (to - from) (drop from places))
+  span_some some within = let size = length-take (to - from) (drop from places) in let rest = length-drop from places in omega (arith, size, rest, some, within)
+
+  pub span_all : (P : Place → Type 0) → ((k : ℕ) (d : Place) → from ≤ k → k < to → P (get_or places k d)) → All P (take (to - from) (drop from places))
+  span_all P each k d lt =
+      let size = length-take (to - from) (drop from places) in
+      let low : k < to - from = omega (arith, lt, size) in
+      subst P (sym (get_or-take (to - from) (drop from places) k d low ∙ get_or-drop from places k d)) (each (from + k) d (omega arith) (omega (arith, low)))
+
+  pub span_same : (unit : ℕ) → ((k : ℕ) (d : Place) → from ≤ k → k < to → (get_or places k d).unit ≡ unit) → All (λ p. p.unit ≡ unit) (take (to - from) (drop from places))
+  span_same unit same = span_all (λ p. p.unit ≡ unit) same
 
 module _ (places : List Place) (up : IsNonDecreasingBy (λ (p : Place). p.unit) places) where
   -- at a border
@@ -84,11 +112,7 @@ module _ (places : List Place) (up : IsNonDecreasingBy (λ (p : Place). p.unit) 
         (cases_lt k from)
 
     pub group_all : All (λ p. p.unit ≡ unit) (take (to - from) (drop from places))
-    group_all k d lt =
-        let size = length-take (to - from) (drop from places) in
-        let rest = length-drop from places in
-        let low : k < to - from = omega (arith, lt, size) in
-        ap (λ (p : Place). p.unit) (get_or-take (to - from) (drop from places) k d low ∙ get_or-drop from places k d) ∙ group.same (from + k) d (omega arith) (omega (arith, low))
+    group_all = span_same places from to unit group.same
 
   -- PLACES FROM ONE BORDER ON are of other units than those before it
   module _ (from to : ℕ) (before : IsBorder places from) (some : from < to) (within : to ≤ length places) where
@@ -201,6 +225,21 @@ pub through_ends : (told : Bool) (t : Table) (text : List ℕ) (places : List Pl
     → IsRun {T = Unit {0}} (sizes old) told t text places v w log log1 old new (Ok tt)
 through_ends told t text places v w log log1 old new from before after through all =
     subst (λ (l : List Place). IsRun {T = Unit {0}} (sizes old) told t text l v w log log1 old new (Ok tt)) (take_all from places all) through.run
+
+-- the steps of a part behind those of the groups before `from`: those of all the places that are left, or fewer
+module _ (places : List Place) (from n before now after : ℕ) (within : from ≤ length places) (was : now ≡ before + from) where
+  pub steps_through : length places - from ≤ n → after ≡ now + length (take n (drop from places)) → after ≡ before + length places
+  steps_through all is = let size = length-take n (drop from places) in let rest = length-drop from places in omega (arith, all, is, size, rest, was, within)
+
+  pub fewer_through : (now ≤ after) × (after < now + length (take n (drop from places))) → (before ≤ after) × (after < before + length places)
+  fewer_through fewer =
+      let least = fewer.0 in let less = fewer.1 in
+      let size = length-take n (drop from places) in let rest = length-drop from places in
+      (omega (arith, least, was), omega (arith, less, size, rest, was, within))
+
+  -- no step was done where it ended
+  pub fewer_there : from < length places → after ≡ now → (before ≤ after) × (after < before + length places)
+  fewer_there left same = (omega (arith, same, was), omega (arith, same, was, left))
 
 -- UNITS ARE HELD, then the records of a front of their places are repeated, and then those of the rest
 module _ (told : Bool) (t : Table) (text : List ℕ) (places : List Place) (up : IsNonDecreasingBy (λ (p : Place). p.unit) places) (v w z : View) (log log1 log2 : Tail) (p0 p1 p2 p3 : Pool) (held : IsRun {T = Unit {0}} (sizes p0) told t [] places v w log log1 p0 p1 (Ok tt))

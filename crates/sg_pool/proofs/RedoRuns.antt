@@ -140,12 +140,6 @@ on_told_cases (Err Disk) A B P f h a b = tt
 on_told_cases (Err (Damaged n)) A B P f h a b = h b
 on_told_cases (Err Memory) A B P f h a b = h b
 
--- what holds behind a refusal, whatever the call would have answered
-pub told_as : (T U : Type 0) (e : PoolFault) (P : Type 0) → OnTold {T = T} (Err e) P → OnTold {T = U} (Err e) P
-told_as T U Disk P p = tt
-told_as T U (Damaged n) P p = p
-told_as T U Memory P p = p
-
 -- no record is repeated on a page
 pub nothing_repeated : (p : ℕ) (t : Table) (places : List Place) (m : Units) → IsPageRepeated p (page_records t [] places) m m
 nothing_repeated p t places m = record {

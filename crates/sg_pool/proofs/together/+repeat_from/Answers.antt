@@ -1,13 +1,15 @@
-use Rattle.std.proofs.Common.{◌≡◌, ◌<◌, ◌≤◌, ◌+◌, ◌-◌, ℕ, Some, None, List, [], ◌∷◌, ◌++◌, length, get_or, refl, sym, ◌∙◌, ap, subst, arith}
-use Rattle.std.specs.Prelude.{All, map}
+use Rattle.std.proofs.Common.{◌≡◌, ◌<◌, ◌≤◌, ◌+◌, ◌-◌, ℕ, Some, None, List, [], ◌∷◌, ◌++◌, length, get_or, refl, sym, ◌∙◌, ap, subst, le_trans, le_of_lt, arith}
+use Rattle.std.specs.Prelude.{All, map, sum_by}
+use Rattle.std.proofs.lemmas.List.Sums.{sum_by-append}
 use Rattle.std.proofs.lemmas.List.{map-append}
 use Rattle.sg_frames.specs.Held.{Held, IsFrom}
 use Rattle.sg_ops.specs.Table.{Table, fresh_table}
 use Rattle.sg_redo.specs.declared.unit.Unit as code
 use Rattle.sg_redo.specs.Units.{Lies, StaysWell, replayed_unit}
 use Rattle.sg_pool.specs.Held.{since_of}
+use Rattle.sg_pool.specs.Redone.{places_of}
 use Rattle.sg_pool.specs.Together.{part_of, ArePlaced, AreHereFrom, AreRepeated}
-use Rattle.sg_pool.proofs.Grouped.{IsGroup}
+use Rattle.sg_pool.proofs.Grouped.{IsGroup, next_border}
 use Rattle.sg_pool.proofs.Placed.{no_place, all_left, all_right}
 use Rattle.sg_pool.proofs.OneMore.{last_same, one_more, part_none, none_repeated_yet, there, is_here, placed_lent, here_lent, held_more, from_it, page_more}
 use Rattle.sg_pool.proofs.together.+repeat_from.Goals as goal
@@ -123,3 +125,35 @@ pub returns-clause-repeated : goal.returns-clause-repeated
 returns-clause-repeated g r c =
     let t : Table = _ in
     none_repeated_yet t c.args.text.now (part_of c.args.places.now c.args.from c.args.from) c.args.slots.now.items c.args.frames.now (part_none c.args.places.now c.args.from)
+
+pub returns-in-Some-clause-within : goal.returns-in-Some-clause-within
+returns-in-Some-clause-within g r c = let it = c.repeat_from-end.ensures.within in (le_trans (le_of_lt c.end_of_unit-to.ensures.some) it.0, it.1)
+
+pub returns-in-Some-clause-border : goal.returns-in-Some-clause-border
+returns-in-Some-clause-border g r c before =
+    let to = c.end_of_unit-to in
+    let group : IsGroup c.args.places.now _ c.args.from to.result = record { some = to.ensures.some; within = to.ensures.within; same = to.ensures.same; border = to.ensures.border } in
+    c.repeat_from-end.ensures.border (next_border c.args.places.now c.requires.grouped _ c.args.from to.result before group)
+
+pub returns-in-Some-clause-units : goal.returns-in-Some-clause-units
+returns-in-Some-clause-units g r c =
+    let t : Table = _ in
+    let lent = c.lend.ensures.lent in
+    let f : code.Unit → code.Unit = replayed_unit t c.args.text.now c.args.places.now in
+    let all : c.repeat_from-end.new.units.items ≡ map f c.args.units.now.items ++ f lent.0 ∷ [] = c.repeat_from-end.ensures.units ∙ (ap (λ (l : List code.Unit). map f l) lent.2 ∙ map-append f c.args.units.now.items (lent.0 ∷ [])) in
+    (c.take_back.ensures.back (map f c.args.units.now.items) (f lent.0) all).1
+
+-- the steps of the units that were there before, and one for each place of the unit's and of those behind it
+steps_more : (units : List code.Unit) (u : code.Unit) (all : List code.Unit) (from to end before after : ℕ) → all ≡ units ++ u ∷ [] → u.count ≡ to - from → from < to → to ≤ end
+    → after ≡ before + sum_by (λ (v : code.Unit). v.count) all + (end - to) → after ≡ before + sum_by (λ (v : code.Unit). v.count) units + (end - from)
+steps_more units u all from to end before after is count some within steps =
+    let sum = ap (sum_by (λ (v : code.Unit). v.count)) is ∙ sum_by-append (λ (v : code.Unit). v.count) units (u ∷ []) in
+    omega (arith, sum, count, some, within, steps)
+
+pub returns-in-Some-clause-steps : goal.returns-in-Some-clause-steps
+returns-in-Some-clause-steps g r c =
+    let to = c.end_of_unit-to in let end = c.repeat_from-end in let lent = c.lend.ensures.lent in
+    steps_more c.args.units.now.items lent.0 _ c.args.from to.result end.result c.args.steps.now end.new.steps lent.2 lent.1.count to.ensures.some end.ensures.within.0 end.ensures.steps
+
+pub returns-clause-held : goal.returns-clause-held
+returns-clause-held g r c n absent = ap (places_of n) (part_none c.args.places.now c.args.from)

@@ -4,7 +4,8 @@ use Rattle.std.proofs.lemmas.Result.{err_from_is_err_and}
 use Rattle.sg_ops.specs.Table.{Table}
 use Rattle.sg_redo.specs.declared.place.Place.{Place}
 use Rattle.sg_pool.specs.Pooled.{contents}
-use Rattle.sg_pool.proofs.RedoRuns.{page_run, nothing_repeated, told_as}
+use Rattle.sg_pool.proofs.Bringing.{told_as}
+use Rattle.sg_pool.proofs.RedoRuns.{page_run, nothing_repeated}
 use Rattle.sg_pool.proofs.pool.Pool.hold_page.Goals as goal
 
 pub returns-clause-run : goal.returns-clause-run

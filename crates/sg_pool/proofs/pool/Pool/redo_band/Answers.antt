@@ -1,4 +1,5 @@
 use Rattle.std.proofs.Common.{◌≡◌, ◌<◌, List, [], length, get_or, refl, sym, ◌∙◌, ap, subst, arith, get_or-set_same, get_or-set_other, length-set, ⊎_elim, None, Some, ℕ}
+use Rattle.std.proofs.lemmas.Result.{err_from_is_err_and}
 use Rattle.sg_base.specs.declared.area.Area.TheVariants.{Home}
 use Rattle.sg_frames.specs.Held.{Held}
 use Rattle.sg_ops.specs.Table.{Table, table_of}
@@ -13,6 +14,7 @@ use Rattle.std.proofs.lemmas.Bool.{cases_eq}
 use Rattle.sg_pool.specs.Pooled.{band_since_of}
 use Rattle.sg_pool.proofs.HomesKept.{band_untouched}
 use Rattle.sg_pool.proofs.BandsHome.{lasts_below}
+use Rattle.sg_pool.proofs.Bringing.{disk_told}
 use Rattle.sg_pool.proofs.BandsChanged.{written_lasts, written_held, written_below, values_replayed, values_replayed_backed, none_replayed}
 use Rattle.sg_pool.proofs.Slots.{frame_some, page_there, none_is_some}
 use Rattle.sg_pool.proofs.pool.Pool.redo_band.Goals as goal
@@ -88,9 +90,6 @@ returns-clause-logged g c tail below small =
     written_below (geometry_of s) s.slots.items s.wins t.wins c.in_ok-w.w c.args.b.0 _ lt held c.repeat_band.ensures.wins c.repeat_band.ensures.marks s.frames t.frames
     (ap (λ (h : Held). h.pages) is) (λ v differ. ap (λ (h : Held). get_or h.windows v []) is ∙ get_or-set_other s.frames.windows c.in_ok-w.w v _ [] differ) (last_lsn c.args.places.now) c.repeat_band.ensures.last tail small (lasts_below c.args.self.now.shelf.wins c.hold_band.new.self.shelf.wins tail c.hold_band.ensures.lasts below)
 
-pub returns-in_err-w-clause-logged : goal.returns-in_err-w-clause-logged
-returns-in_err-w-clause-logged g c tail below small = lasts_below c.args.self.now.shelf.wins c.hold_band.new.self.shelf.wins tail c.hold_band.ensures.lasts below
-
 pub returns-clause-lasts : goal.returns-clause-lasts
 returns-clause-lasts g c b o differ since =
     let s = c.hold_band.new.self.shelf in let t = c.repeat_band.new.self in let held = c.in_ok-w.ensures.brought.held in
@@ -102,9 +101,6 @@ returns-clause-lasts g c b o differ since =
     (ap (λ (h : Held). h.pages) is) (λ v other. ap (λ (h : Held). get_or h.windows v []) is ∙ get_or-set_other s.frames.windows c.in_ok-w.w v _ [] other) b o differ since in
     let before = c.hold_band.ensures.lasts b o it.0 in
     (before.0, it.1 ∙ before.1)
-
-pub returns-in_err-w-clause-lasts : goal.returns-in_err-w-clause-lasts
-returns-in_err-w-clause-lasts g c b o differ since = c.hold_band.ensures.lasts b o since
 
 pub returns-clause-turn : goal.returns-clause-turn
 unfolding returns-clause-brought
@@ -144,3 +140,65 @@ returns-clause-gone g c logged b o had none =
     absurd (none_is_some o (sym (none_replayed (window_records t' c.args.text.now c.args.places.now) _ (sym it.since ∙ after)).0 ∙ before)))
     (λ differ. c.in_ok-w.ensures.gone logged b o had (sym (it.other_sinces b differ) ∙ none))
     (cases_eq b c.args.b.0)
+
+-- the call that brings the band was refused, and nothing else was done
+pub returns-in_err-w : goal.returns-in_err-w
+returns-in_err-w g c =
+    let all = c.hold_band.ensures in let failed = c.in_err-w.ensures in let e = c.in_err-w.field-0.0 in
+    let p = err_from_is_err_and c.from_residual.result c.from_residual.ensures.1 in
+    rw (p.1, p.2) (record {
+      brought = tt;
+      frames = all.frames;
+      logged = λ tail below small. lasts_below c.args.self.now.shelf.wins c.hold_band.new.self.shelf.wins tail all.lasts below;
+      size = all.size;
+      backed = λ told apart backed. tt;
+      repeated = λ told apart backed. tt;
+      last = tt;
+      lasts = λ b o differ since. all.lasts b o since;
+      gone = λ logged. tt;
+      log_kept = all.log_kept;
+      hit = all.hit;
+      spared = all.spared;
+      durable = all.durable;
+      turn = λ none. tt;
+      count = all.count;
+      untouched = λ told apart backed. tt;
+      log = λ ds ps told apart holds. disk_told (Unit {0}) e _ failed.fault;
+      moments = all.moments;
+      fault = failed.fault;
+      failed = failed.failed;
+      later = all.later;
+      heeded = failed.heeded;
+      kept = all.kept;
+      grown = all.grown;
+      steps = tt;
+      no_steps = refl;
+    })
+
+pub returns-clause-frames : goal.returns-clause-frames
+returns-clause-frames g c = record {
+  slots = c.repeat_band.ensures.slots ∙ c.hold_band.ensures.frames.slots;
+  bytes = ap (λ (h : Held). h.pages) c.repeat_band.ensures.frames ∙ c.hold_band.ensures.frames.bytes;
+  uses = c.hold_band.ensures.frames.uses;
+}
+
+pub returns-clause-size : goal.returns-clause-size
+returns-clause-size g c = c.repeat_band.ensures.geometry ∙ c.hold_band.ensures.size
+
+pub returns-clause-hit : goal.returns-clause-hit
+returns-clause-hit g c = c.hold_band.ensures.hit
+
+pub returns-clause-spared : goal.returns-clause-spared
+returns-clause-spared g c = c.hold_band.ensures.spared
+
+pub returns-clause-durable : goal.returns-clause-durable
+returns-clause-durable g c = c.hold_band.ensures.durable
+
+pub returns-clause-log : goal.returns-clause-log
+returns-clause-log g c = c.in_ok-w.ensures.log
+
+pub returns-clause-moments : goal.returns-clause-moments
+returns-clause-moments g c = c.hold_band.ensures.moments
+
+pub returns-clause-grown : goal.returns-clause-grown
+returns-clause-grown g c = c.hold_band.ensures.grown

@@ -1,11 +1,14 @@
-use Rattle.std.proofs.Common.{◌≡◌, ◌<◌, length, sym, subst, arith}
+use Rattle.std.proofs.Common.{◌≡◌, ◌<◌, ℕ, length, refl, sym, ◌∙◌, ap, subst, arith}
+use Rattle.std.proofs.lemmas.Result.{err_from_is_err_and}
 use Rattle.sg_base.specs.declared.area.Area.TheVariants.{Home}
+use Rattle.sg_frames.specs.Held.{Held}
 use Rattle.sg_ops.specs.Table.{Table, table_of}
 use Rattle.sg_redo.specs.Places.{page_records}
 use Rattle.sg_pool.specs.Units.{Geometry, IsBacked}
 use Rattle.sg_pool.specs.Shelves.{geometry_of, units}
 use Rattle.sg_pool.proofs.HomesKept.{page_untouched}
 use Rattle.sg_pool.proofs.Slots.{frame_some}
+use Rattle.sg_pool.proofs.Bringing.{told_as}
 use Rattle.sg_pool.proofs.Changes.{repeat_marked, repeat_is, repeat_backed, still_held, others_still}
 use Rattle.sg_pool.proofs.pool.Pool.redo_page.Goals as goal
 
@@ -65,3 +68,67 @@ returns-clause-untouched g c told apart backed =
     let is = repeat_is c.args.p.0 (page_records t' c.args.text.now c.args.places.now) s.slots.items s.frames c.in_ok-f.f lt (omega (arith, lt, many)) s.shelf.apart held (geometry_of s) s.wins (w.now Home).seen (geometry_of t) t.slots.items t.wins t.frames
     c.repeat_page.ensures.geometry c.repeat_page.ensures.slots c.repeat_page.ensures.wins c.repeat_page.ensures.frames in
     page_untouched (geometry_of c.args.self.now.shelf) (v.now Home).seen (w.now Home).seen (units (w.now Home).seen s) (units (w.now Home).seen t) c.args.p.0 (c.in_ok-f.ensures.untouched told apart backed) (c.in_ok-f.ensures.home told apart backed) is.other_sinces is.band_since
+
+-- the call that brings the page was refused, and nothing else was done
+pub returns-in_err-f : goal.returns-in_err-f
+returns-in_err-f g c =
+    let all = c.hold.ensures in let failed = c.in_err-f.ensures in let e = c.in_err-f.field-0.0 in
+    let p = err_from_is_err_and c.from_residual.result c.from_residual.ensures.1 in
+    rw (p.1, p.2) (record {
+      brought = tt;
+      emptied = failed.emptied;
+      unused = failed.unused;
+      windows = all.windows;
+      size = all.size;
+      backed = λ told apart backed. told_as ℕ (Unit {0}) e _ (failed.backed told apart backed);
+      repeated = λ told apart backed. tt;
+      refused = λ told apart backed. told_as ℕ (Unit {0}) e _ (failed.same told apart backed);
+      log_kept = all.log_kept;
+      hit = all.hit;
+      spared = all.spared;
+      durable = all.durable;
+      untouched = λ told apart backed. told_as ℕ (Unit {0}) e _ (failed.untouched told apart backed);
+      log = λ ds ps told apart ready holds. told_as ℕ (Unit {0}) e _ (failed.log ds ps told apart ready holds);
+      moments = all.moments;
+      well = λ told apart backed away. tt;
+      faults = failed.faults;
+      later = all.later;
+      heeded = failed.heeded;
+      kept = all.kept;
+      grown = all.grown;
+      steps = tt;
+      no_steps = refl;
+    })
+
+pub returns-clause-windows : goal.returns-clause-windows
+returns-clause-windows g c = record {
+  windows = c.repeat_page.ensures.wins ∙ c.hold.ensures.windows.windows;
+  bytes = ap (λ (h : Held). h.windows) c.repeat_page.ensures.frames ∙ c.hold.ensures.windows.bytes;
+}
+
+pub returns-clause-size : goal.returns-clause-size
+returns-clause-size g c = c.repeat_page.ensures.geometry ∙ c.hold.ensures.size
+
+pub returns-clause-log_kept : goal.returns-clause-log_kept
+returns-clause-log_kept g c = c.hold.ensures.log_kept
+
+pub returns-clause-hit : goal.returns-clause-hit
+returns-clause-hit g c = c.hold.ensures.hit
+
+pub returns-clause-spared : goal.returns-clause-spared
+returns-clause-spared g c = c.hold.ensures.spared
+
+pub returns-clause-durable : goal.returns-clause-durable
+returns-clause-durable g c = c.hold.ensures.durable
+
+pub returns-clause-log : goal.returns-clause-log
+returns-clause-log g c = c.in_ok-f.ensures.log
+
+pub returns-clause-moments : goal.returns-clause-moments
+returns-clause-moments g c = c.hold.ensures.moments
+
+pub returns-clause-well : goal.returns-clause-well
+returns-clause-well g c = c.in_ok-f.ensures.well
+
+pub returns-clause-grown : goal.returns-clause-grown
+returns-clause-grown g c = c.hold.ensures.grown

@@ -1,6 +1,7 @@
 use Rattle.std.proofs.Common.{◌<◌, ℕ, Some, None, List, length, sym, ◌∙◌, ap, subst, arith, length-set}
 use Rattle.sg_base.specs.declared.area.Area.TheVariants.{Home}
 use Rattle.sg_disk.specs.Disk.{State}
+use Rattle.sg_log.proofs.Holding.{moments_read}
 use Rattle.sg_pool.specs.Units.{Geometry}
 use Rattle.sg_pool.specs.Shelves.{geometry_of}
 use Rattle.sg_pool.specs.Well.{IsWell}
@@ -69,3 +70,12 @@ returns-clause-others g c h differ = let s = c.args.self.now in let t = c.read_h
 
 pub fill-requires-clause-well : goal.fill-requires-clause-well
 fill-requires-clause-well g c = subst IsWell c.page.ensures (c.is_well.ensures.0 c.if-not-is_well.false)
+
+pub returns-in-Err-clause-moments : goal.returns-in-Err-clause-moments
+returns-in-Err-clause-moments g c told = moments_read (c.read_home.ensures.does told)
+
+pub returns-then-not-is_well-clause-moments : goal.returns-then-not-is_well-clause-moments
+returns-then-not-is_well-clause-moments g c told = moments_read (c.read_home.ensures.does told)
+
+pub returns-clause-moments : goal.returns-clause-moments
+returns-clause-moments g c told = moments_read (c.read_home.ensures.does told)
