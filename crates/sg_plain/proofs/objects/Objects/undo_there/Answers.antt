@@ -1,0 +1,17 @@
+use Rattle.std.proofs.Common.{◌≡◌, Some, None, refl, rules}
+use Rattle.std.specs.FinMap.{get}
+use Rattle.sg_model.specs.Objects.{Objects}
+use Rattle.sg_plain.specs.Shown.{shown, objects_of}
+use Rattle.sg_plain.specs.Undone.{shown_undo}
+use Rattle.sg_plain.proofs.Found.{look, put_shown}
+use Rattle.sg_plain.proofs.Taken.{there_undone}
+use Rattle.sg_plain.proofs.objects.Objects.undo_there.Goals as goal
+
+pub returns : goal.returns
+returns c =
+    let s : Objects = c.args.self.now in
+    let n = c.args.noted.now.name in
+    let there : get s n ≡ Some (shown c.in-Some.object.now) = look shown s c.self.inside.map.entries n (Some c.in-Some.object.now) c.self.view_is c.in-Some.ensures.value in
+    let after = c.get_mut.follows.lender c.undo.new.self in
+    let put = put_shown shown s c.self.inside.map.entries after.entries n c.undo.new.self c.self.view_is ((c.get_mut.follows.holds c.undo.new.self).3 (search rules)).0 in
+    there_undone s (objects_of after.entries) n (shown_undo c.args.noted.now.undo) (shown c.in-Some.object.now) (shown c.undo.new.self) c.undo.result there put c.undo.ensures
