@@ -91,14 +91,8 @@ impl Objects {
         ensures err { OnErr result (self.new ≡ self.old) }
     {
         match self.map.insert(name, object) {
-            Ok(old) => {
-                drop(old);
-                Ok(())
-            }
-            Err(failed) => {
-                drop(failed);
-                Err(OutOfMemory)
-            }
+            Ok(_) => Ok(()),
+            Err(_) => Err(OutOfMemory),
         }
     }
 
@@ -425,7 +419,6 @@ impl Objects {
             return Err(OutOfMemory);
         };
         if changes.notes.reserve(1).is_err() {
-            drop(undo);
             return Err(OutOfMemory);
         }
         match self.apply(alloc, ops, op, into) {
@@ -434,14 +427,8 @@ impl Objects {
                 changes.notes.push_reserved(Noted { name, undo });
                 Ok(Ok(reply))
             }
-            Ok(Err(reason)) => {
-                drop(undo);
-                Ok(Err(reason))
-            }
-            Err(fault) => {
-                drop(undo);
-                Err(fault)
-            }
+            Ok(Err(reason)) => Ok(Err(reason)),
+            Err(fault) => Err(fault),
         }
     }
 

@@ -13,7 +13,8 @@ returns-in_default-clause-done g c =
     let t = table_of (λ p. (goal.RecordOp-dyn g p).record_meaning p.1) (λ p. (goal.RangeOp-dyn g p).range_meaning p.1) c.args.ops.now in
     let s : Objects = c.args.self.now in
     let none : get s c.args.name.now ≡ None = look shown s c.self.inside.map.entries c.args.name.now None c.self.view_is c.in_default.ensures.value in
-    ?
+    let same : objects_of c.get_mut.follows.lender-at-none.entries ≡ s = rw c.get_mut.follows.holds-at-none c.self.view_is in
+    rw c.requires.named at (none_in t s (objects_of c.get_mut.follows.lender-at-none.entries) c.args.name.now (verb_of c.args.op.now) c.requires.in_place none same)
 
 pub returns-clause-done : goal.returns-clause-done
 returns-clause-done g c =
