@@ -339,8 +339,7 @@ impl Blob {
             Undo::Bytes { at, bytes, length }
                 if *length as u64 <= MOST_BLOB_BYTES
                     && *at <= *length
-                    && bytes.len() <= *length - *at =>
-            {
+                    && bytes.len() <= *length - *at => {
                 let Ok(()) = self.set_len(*length) else {
                     return Err(OutOfMemory);
                 };

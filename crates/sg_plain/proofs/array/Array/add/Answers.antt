@@ -1,4 +1,4 @@
-use Rattle.std.proofs.Common.{ap, arith}
+use Rattle.std.proofs.Common.{arith}
 use Rattle.sg_plain.proofs.Chunks.{row_pushed, counted}
 use Rattle.sg_plain.proofs.array.Array.add.Goals as goal
 

@@ -1,4 +1,3 @@
-use Rattle.std.proofs.Common.{ap}
 use Rattle.sg_plain.proofs.Arrays.{cut_row}
 use Rattle.sg_plain.proofs.array.Array.cut_last.Goals as goal
 

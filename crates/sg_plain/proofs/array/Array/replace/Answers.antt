@@ -1,4 +1,3 @@
-use Rattle.std.proofs.Common.{ap}
 use Rattle.sg_plain.proofs.Chunks.{within}
 use Rattle.sg_plain.proofs.array.Array.replace.Goals as goal
 

@@ -1,9 +1,8 @@
-use Rattle.std.proofs.Common.{◌≡◌, ℕ, List, Option, sym, ap, ◌∙◌}
-use Rattle.std.specs.FinMap.{get}
+use Rattle.std.proofs.Common.{ℕ, List, Option, sym, ap, ◌∙◌}
 use Rattle.sg_ops.specs.Table.{table_of}
 use Rattle.sg_model.specs.Objects.{Object}
 use Rattle.sg_model.specs.SaidOps.{said_op, verb_of, name_of}
-use Rattle.sg_model.specs.Undo.{Note, OpNote, note_of_op}
+use Rattle.sg_model.specs.Undo.{OpNote, note_of_op}
 use Rattle.sg_plain.specs.Undone.{shown_undo, undo_in}
 use Rattle.sg_plain.proofs.Noting.{refused_notes}
 use Rattle.sg_plain.proofs.Steps.{refused}

@@ -1,4 +1,4 @@
-use Rattle.std.proofs.Common.{ℕ, List, Option, map, ap, ◌∙◌}
+use Rattle.std.proofs.Common.{List, Option, map, ap, ◌∙◌}
 use Rattle.std.specs.FinMap.{get}
 use Rattle.sg_model.specs.Objects.{Object, Objects}
 use Rattle.sg_model.specs.Undo.{undo_all_on}

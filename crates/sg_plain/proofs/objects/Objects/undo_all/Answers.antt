@@ -1,7 +1,7 @@
 use Rattle.std.proofs.Common.{◌≡◌, ◌+◌, ◌-◌, ℕ, List, [], ◌∷◌, ◌++◌, map, take, sym, ap, ◌∙◌, arith}
 use Rattle.std.specs.FinMap.{get}
-use Rattle.std.proofs.lemmas.List.{take_more, take_all}
-use Rattle.sg_model.specs.Undo.{OpNote, undo_all_on}
+use Rattle.std.proofs.lemmas.List.{take_more}
+use Rattle.sg_model.specs.Undo.{undo_all_on}
 use Rattle.sg_plain.specs.declared.undo.Noted as code_noted
 use Rattle.sg_plain.specs.Undone.{shown_noted}
 use Rattle.sg_plain.proofs.Taken.{undo_last, taken_back}

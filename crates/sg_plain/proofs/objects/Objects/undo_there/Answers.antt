@@ -1,4 +1,4 @@
-use Rattle.std.proofs.Common.{◌≡◌, Some, None, refl, rules}
+use Rattle.std.proofs.Common.{◌≡◌, Some, None, rules}
 use Rattle.std.specs.FinMap.{get}
 use Rattle.sg_model.specs.Objects.{Objects}
 use Rattle.sg_plain.specs.Shown.{shown, objects_of}
