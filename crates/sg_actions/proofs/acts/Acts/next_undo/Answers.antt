@@ -24,7 +24,7 @@ pub returns-in_default-clause-next : goal.returns-in_default-clause-next
 returns-in_default-clause-next g c = λ told. ∥∥₁_elim (g.met.E.Engine.some c.args.self.now.engine told) (number_set _ _) (λ x. next_none (g.E.Engine.view c.args.self.now.engine).steps c.args.txn.0 c.args.stop c.find_note.new.into _ c.in_default.is (c.in_ok-found.ensures.finds x.0 x.1 x.2 told))
 
 pub returns-in_err-found-clause-counts : goal.returns-in_err-found-clause-counts
-returns-in_err-found-clause-counts g c = 
+returns-in_err-found-clause-counts g c =
     let p = err_from_is_err_and c.from_residual.result c.from_residual.ensures.1 in
     err_is {T = Option Found} c.from_residual.result c.in_err-found.field-0.0 p.0 p.1 p.2 c.in_err-found.ensures.counts
 

@@ -1,5 +1,5 @@
 use mathlib.Core.Logic.{∥∥₁_elim, ∥∥₁_prop}
-use Rattle.std.proofs.Common.{◌≡◌, true, sym, ap, subst, ◌∙◌, refl, arith, false, ℕ, Bool}
+use Rattle.std.proofs.Common.{◌≡◌, true, sym, ap, ◌∙◌, refl, false, ℕ, Bool}
 use Rattle.std.proofs.Props.{props}
 use Rattle.std.proofs.lemmas.Result.{err_from_is_err_and}
 use Rattle.sg_record.specs.Shown.{shown_change}
@@ -148,7 +148,7 @@ pub returns-clause-lower : goal.returns-clause-lower
 returns-clause-lower g c = c.in-Some.ensures.reads.lower
 
 pub returns-in_err-size-clause-counts : goal.returns-in_err-size-clause-counts
-returns-in_err-size-clause-counts g c = 
+returns-in_err-size-clause-counts g c =
     let p = err_from_is_err_and c.from_residual.result c.from_residual.ensures.1 in
     counts_err {T = ℕ} c.from_residual.result c.in_err-size.field-0.0 p.0 (g.met.E.Engine.told_whole _) p.1 p.2 (looked_none (g.E.Engine.view c.args.self.now.engine) c.args.self.now.breaks) c.in_err-size.ensures.rests.counts
 

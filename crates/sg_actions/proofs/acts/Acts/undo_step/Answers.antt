@@ -121,7 +121,7 @@ act-requires-clause-chain g c =
     (λ told. ∥∥₁_elim (g.met.E.Engine.some c.args.self.now.engine told) ∥∥₁_prop (λ x. ∣ (x.0, x.1, k.stays x.0 x.1 x.2) ∣₁)) k.rows k.actor (λ told. ∣ (c.requires told).chain ∣₁)
 
 pub returns-in_err-found-clause-counts : goal.returns-in_err-found-clause-counts
-returns-in_err-found-clause-counts g c = 
+returns-in_err-found-clause-counts g c =
     let p = err_from_is_err_and c.from_residual.result c.from_residual.ensures.1 in
     err_is {T = Option Found} c.from_residual.result c.in_err-found.field-0.0 p.0 p.1 p.2 c.in_err-found.ensures.counts
 
