@@ -1,5 +1,5 @@
 -- The counts of calls that end with a call of the engine, or with a break.
-use Rattle.std.proofs.Common.{◌≡◌, ℕ, ◌≤◌, ◌<◌, ◌+◌, Bool, true, false, sym, subst, ◌∙◌, arith, inl, Ok, Err, Result}
+use Rattle.std.proofs.Common.{◌≡◌, ℕ, ◌≤◌, ◌<◌, Bool, false, sym, subst, ◌∙◌, arith, inl, Ok, Err, Result}
 use Rattle.sg_base.specs.Ends.{HasRisen}
 use Rattle.sg_alloc.specs.declared.maps.Maps.{Maps}
 use Rattle.sg_space.specs.View.{Counts}
@@ -7,7 +7,7 @@ use Rattle.sg_space.specs.declared.space.SpaceFault.{SpaceFault}
 use Rattle.sg_space.specs.declared.space.SpaceFault.TheVariants.{Disk, LogEnd}
 use Rattle.sg_action.specs.States.{State}
 use Rattle.sg_actions.specs.Counts.{ActsCounts}
-use Rattle.sg_actions.specs.Engine.{EngineSeen, EngineCounts, IsNearEnd}
+use Rattle.sg_actions.specs.Engine.{EngineSeen, EngineCounts}
 use Rattle.sg_actions.specs.View.{acts_view}
 use Rattle.sg_actions.proofs.Accounting.{count_none, count_ok, accounts_ok, accounts_err}
 use Rattle.sg_actions.proofs.Counting.{HasLooked, looked_ok, looked_err, looked_then, looked_engine}
@@ -20,15 +20,43 @@ engine_err {T} {S} {e} {e'} q f h is same k =
   where
     failed : EngineCounts {T = S} e e' (Err f)
     failed = record {
-      told = k.told; tells = tt; base = k.base; extent = k.extent; later = k.later; quiet = tt; disk = k.disk; accounts = accounts_err (λ t. t) (count_none e.disk e.gate) k.accounts;
-      log_end = k.log_end; tail = k.tail; failed = k.failed; stops = k.stops; first = k.first; full = tt; for_disk = k.for_disk; for_end = k.for_end;
+      told = k.told;
+      tells = tt;
+      base = k.base;
+      extent = k.extent;
+      later = k.later;
+      quiet = tt;
+      disk = k.disk;
+      accounts = accounts_err (λ t. t) (count_none e.disk e.gate) k.accounts;
+      log_end = k.log_end;
+      tail = k.tail;
+      failed = k.failed;
+      stops = k.stops;
+      first = k.first;
+      full = tt;
+      for_disk = k.for_disk;
+      for_end = k.for_end;
     }
 
 -- or with another answer
 pub engine_ok : {T S : Type 0} {e e' : EngineSeen} {x : T} (y : S) → EngineCounts {T = T} e e' (Ok x) → EngineCounts {T = S} e e' (Ok y)
 engine_ok {T} {S} {e} {e'} {x} y k = record {
-  told = k.told; tells = k.tells; base = k.base; extent = k.extent; later = k.later; quiet = k.quiet; disk = tt; accounts = accounts_ok y (count_ok k.accounts);
-  log_end = tt; tail = k.tail; failed = tt; stops = k.stops; first = k.first; full = k.full; for_disk = tt; for_end = tt;
+  told = k.told;
+  tells = k.tells;
+  base = k.base;
+  extent = k.extent;
+  later = k.later;
+  quiet = k.quiet;
+  disk = tt;
+  accounts = accounts_ok y (count_ok k.accounts);
+  log_end = tt;
+  tail = k.tail;
+  failed = tt;
+  stops = k.stops;
+  first = k.first;
+  full = k.full;
+  for_disk = tt;
+  for_end = tt;
 }
 
 -- SOME LOOKS, and a call of the engine that fails, or that is the last

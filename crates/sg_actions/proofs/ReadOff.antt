@@ -1,5 +1,4 @@
 -- What a take-off reads of the last open change, and the record that takes it off.
-use mathlib.Core.Logic.{∥∥₁_prop}
 use Rattle.std.proofs.Common.{◌≡◌, ℕ, List, Some, length, sym, ap, subst, ◌∙◌, refl}
 use Rattle.std.specs.Prelude.{⊤}
 use Rattle.std.proofs.Props.{props}
@@ -12,7 +11,7 @@ use Rattle.sg_recovery.specs.Log.Record.{Change, PhysComp}
 use Rattle.sg_recovery.specs.Chains.{next_off}
 use Rattle.sg_action.specs.States.{State, Kept}
 use Rattle.sg_actions.specs.Changes.{comp_of, IsChangeOf}
-use Rattle.sg_actions.specs.Engine.{EngineSeen, EngineView, IsOn, AllOn, IsLoggable, KnowsOff, IsStepAt, led, now_of}
+use Rattle.sg_actions.specs.Engine.{EngineSeen, IsOn, AllOn, IsLoggable, KnowsOff, IsStepAt, led, now_of}
 use Rattle.sg_actions.specs.Reads.{ReadsChange}
 use Rattle.sg_actions.specs.Steps.{Steps, step_at, step_of, step_by}
 use Rattle.sg_actions.specs.TakingOff.{IsGoing}

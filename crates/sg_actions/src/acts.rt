@@ -159,9 +159,7 @@ impl<E: Engine> Acts<E> {
         ensures yes { IsTrue result → MayPaint self.now.maps.bands self.now.unfreed.bands b.0 at count position arg.now }
         ensures no { MayPaint self.now.maps.bands self.now.unfreed.bands b.0 at count position arg.now → IsTrue result }
     {
-        count <= 8_192
-            && self.may_write(b, at, count as usize)
-            && is_paint(position, count, arg)
+        count <= 8_192 && self.may_write(b, at, count as usize) && is_paint(position, count, arg)
     }
 }
 

@@ -38,3 +38,4 @@ pub mod Points
 pub mod Saving
 pub mod Rolling
 pub mod Returning
+pub mod Nearing

@@ -51,7 +51,7 @@ pub invariant_of-self-2-clause-goes_on : goal.invariant_of-self-2-clause-goes_on
 invariant_of-self-2-clause-goes_on g c = can_rest_told (g.E.Engine.view c.args.self.now.engine) (g.E.Engine.view c.log.new.self) _ _ c.log.ensures.grows.counts.told c.requires.quiet
 
 pub returns-in_err-log-clause-counts : goal.returns-in_err-log-clause-counts
-returns-in_err-log-clause-counts g c = 
+returns-in_err-log-clause-counts g c =
     let p = err_from_is_err_and c.from_residual.result c.from_residual.ensures.1 in
     engine_err {T = ℕ} c.from_residual.result c.in_err-log.field-0.0 p.0 p.1 p.2 c.in_err-log.ensures.grows.counts
 

@@ -115,7 +115,7 @@ returns-clause-names g c =
     })) c.force.ensures.names
 
 pub returns-in_err-checkpoint-clause-counts : goal.returns-in_err-checkpoint-clause-counts
-returns-in_err-checkpoint-clause-counts g c = 
+returns-in_err-checkpoint-clause-counts g c =
     let p = err_from_is_err_and c.from_residual.result c.from_residual.ensures.1 in
     acts_err {T = ℕ} c.from_residual.result c.in_err-checkpoint.field-0.0 p.0 p.1 p.2 (g.met.E.Engine.told_whole _) (looked_none (g.E.Engine.view c.args.self.now.engine) c.args.self.now.breaks) c.in_err-checkpoint.ensures.grows.counts
 

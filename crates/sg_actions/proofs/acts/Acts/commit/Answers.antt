@@ -68,7 +68,7 @@ pub invariant_of-self-2-clause-goes_on : goal.invariant_of-self-2-clause-goes_on
 invariant_of-self-2-clause-goes_on g c = can_rest_told (g.E.Engine.view c.args.self.now.engine) (g.E.Engine.view c.force.new.self) _ _ (λ told. c.log.ensures.grows.counts.told (c.force.ensures.rests.counts.told told)) c.requires.quiet
 
 pub returns-in_err-lsn-clause-counts : goal.returns-in_err-lsn-clause-counts
-returns-in_err-lsn-clause-counts g c = 
+returns-in_err-lsn-clause-counts g c =
     let p = err_from_is_err_and c.from_residual.result c.from_residual.ensures.1 in
     acts_err {T = ℕ} c.from_residual.result c.in_err-lsn.field-0.0 p.0 p.1 p.2 (g.met.E.Engine.told_whole _) (looked_none (g.E.Engine.view c.args.self.now.engine) c.args.self.now.breaks) c.in_err-lsn.ensures.grows.counts
 

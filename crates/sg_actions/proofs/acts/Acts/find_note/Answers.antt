@@ -108,7 +108,7 @@ pub invariant_of-self-then-next-at-clause-unbroken : goal.invariant_of-self-then
 invariant_of-self-then-next-at-clause-unbroken g c = λ told2. absurd (let i = c.walk.invariant in let k = c.in_ok-prev.ensures.counts in let told = i.run.told (k.told told2) in never_any _ (g.met.E.Engine.some c.args.self.now.engine told) (λ t from m. let go = (walk_goes c.walk.at c.in-On.next c.look_back.new.into (c.requires told) (i.walks t from m told) c.walk-test.true (subst (λ (rs : Steps). SeesAt rs c.walk.at c.look_back.new.into (seen.On c.in-On.next)) ((i.by t from m).stays.stays told).steps (subst (λ (s : Seen). SeesAt (g.E.Engine.view c.walk.self.engine).steps c.walk.at c.look_back.new.into s) c.in-On.is (c.in_ok-prev.ensures.saw t from (i.means t from m) (i.run.tells told))))) in omega (arith, go.0, c.if-next-at.true)))
 
 pub returns-in_err-prev-clause-counts : goal.returns-in_err-prev-clause-counts
-returns-in_err-prev-clause-counts g c = 
+returns-in_err-prev-clause-counts g c =
     let p = err_from_is_err_and c.from_residual.result c.from_residual.ensures.1 in
     err_is {T = Seen} c.from_residual.result c.in_err-prev.field-0.0 p.0 p.1 p.2 (looked_err c.walk.invariant.run c.in_err-prev.ensures.counts)
 

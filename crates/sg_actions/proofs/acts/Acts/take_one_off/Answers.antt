@@ -1,5 +1,5 @@
 use mathlib.Core.Logic.{∥∥₁_elim, ∥∥₁_prop}
-use Rattle.std.proofs.Common.{◌≡◌, true, sym, ap, subst, ◌∙◌, refl, arith, false, ℕ}
+use Rattle.std.proofs.Common.{◌≡◌, true, sym, ap, ◌∙◌, refl, false, ℕ, Bool}
 use Rattle.std.proofs.Props.{props}
 use Rattle.std.proofs.lemmas.Result.{err_from_is_err_and}
 use Rattle.sg_record.specs.Shown.{shown_change}
@@ -18,6 +18,9 @@ use Rattle.sg_actions.proofs.GoingOn.{can_rest}
 use Rattle.sg_actions.proofs.Wanted.{kept_open}
 use Rattle.sg_actions.proofs.Counted.{looked_two}
 use Rattle.sg_actions.proofs.acts.Acts.take_one_off.Goals as goal
+
+not_both : {b : Bool} → b ≡ false → b ≡ true → ⊥
+not_both f t = cc
 
 pub read-requires-clause-there : goal.read-requires-clause-there
 read-requires-clause-there g c = λ told. ∥∥₁_elim (c.requires.off told) (hlevel props) (λ x. some_is (next_one _ x.2.kept x.2.begin (led x.0 (g.E.Engine.view c.args.self.now.engine)) c.args.self.now.rows.items c.args.self.now.actor c.args.at x.2.more x.2.going).step)
@@ -145,7 +148,7 @@ pub returns-clause-lower : goal.returns-clause-lower
 returns-clause-lower g c = c.in-Some.ensures.reads.lower
 
 pub returns-in_err-size-clause-counts : goal.returns-in_err-size-clause-counts
-returns-in_err-size-clause-counts g c = 
+returns-in_err-size-clause-counts g c =
     let p = err_from_is_err_and c.from_residual.result c.from_residual.ensures.1 in
     counts_err {T = ℕ} c.from_residual.result c.in_err-size.field-0.0 p.0 (g.met.E.Engine.told_whole _) p.1 p.2 (looked_none (g.E.Engine.view c.args.self.now.engine) c.args.self.now.breaks) c.in_err-size.ensures.rests.counts
 
@@ -173,3 +176,33 @@ returns-in_default-clause-means g c = λ from m. c.in_ok-size.ensures.means _ fr
 pub returns-in_default-clause-goes : goal.returns-in_default-clause-goes
 returns-in_default-clause-goes g c = λ from m told kept begin more off.
     off_look c.args.self.now.actor.txn.0 (led from (g.E.Engine.view c.args.self.now.engine)) (led from (g.E.Engine.view c.read.new.self)) _ off.taking.running.log (look_call from c.in_ok-size.ensures.rests (c.in_ok-size.ensures.looks _ from m)) told
+
+pub invariant_of-self : goal.invariant_of-self
+invariant_of-self g c =
+    let never = λ (told : (g.E.Engine.view c.read.new.self).Told). not_both (g.met.E.Engine.told_whole _ told) c.in_err-size.ensures.rests.counts.failed in
+    record {
+      count_is = c.args.self.now.count_is;
+      bands_are = c.args.self.now.bands_are;
+      few = c.args.self.now.few;
+      page_flags = c.args.self.now.page_flags;
+      band_flags = c.args.self.now.band_flags;
+      pages_said = λ told. absurd (never told);
+      within = λ told. absurd (never told);
+      unbroken = λ told. absurd (never told);
+      goes_on = λ begun told. absurd (never told);
+    }
+
+pub invariant_of-self-in-Break-branch-2 : goal.invariant_of-self-in-Break-branch-2
+invariant_of-self-in-Break-branch-2 g c =
+    let never = λ (told : (g.E.Engine.view c.log_by.new.self).Told). not_both (g.met.E.Engine.told_whole _ told) c.in_err-self.ensures.grows.counts.failed in
+    record {
+      count_is = c.args.self.now.count_is;
+      bands_are = c.args.self.now.bands_are;
+      few = c.args.self.now.few;
+      page_flags = c.args.self.now.page_flags;
+      band_flags = c.args.self.now.band_flags;
+      pages_said = λ told. absurd (never told);
+      within = λ told. absurd (never told);
+      unbroken = λ told. absurd (never told);
+      goes_on = λ begun told. absurd (never told);
+    }

@@ -1,5 +1,5 @@
 use mathlib.Core.Logic.{∥∥₁_elim, ∥∥₁_prop}
-use Rattle.std.proofs.Common.{false, refl, sym, ap, subst, ◌∙◌, length}
+use Rattle.std.proofs.Common.{false, refl, sym, ap, subst, ◌∙◌, length, Option}
 use Rattle.sg_alloc.specs.Flags.{map_bands_of}
 use Rattle.sg_alloc.specs.declared.maps.Maps.{Maps}
 use Rattle.std.proofs.lemmas.Result.{err_from_is_err_and}
@@ -13,6 +13,7 @@ use Rattle.sg_actions.proofs.Sets.{steps_set}
 use Rattle.sg_actions.proofs.Wanted.{way_is_own}
 use Rattle.std.proofs.Props.{props}
 use Rattle.sg_actions.proofs.GoingOn.{chain_look}
+use Rattle.sg_actions.specs.declared.undo.Found.{Found}
 use Rattle.sg_actions.proofs.acts.Acts.undo_step.Goals as goal
 
 pub act-requires-clause-can : goal.act-requires-clause-can
@@ -118,3 +119,11 @@ act-requires-clause-chain g c =
     let k = c.in_ok-found.ensures in
     chain_look (g.E.Engine.view c.args.self.now.engine) (g.E.Engine.view c.find_note.new.self.engine) c.args.self.now.rows.items c.find_note.new.self.rows.items c.args.self.now.actor c.find_note.new.self.actor k.counts.told
     (λ told. ∥∥₁_elim (g.met.E.Engine.some c.args.self.now.engine told) ∥∥₁_prop (λ x. ∣ (x.0, x.1, k.stays x.0 x.1 x.2) ∣₁)) k.rows k.actor (λ told. ∣ (c.requires told).chain ∣₁)
+
+pub returns-in_err-found-clause-counts : goal.returns-in_err-found-clause-counts
+returns-in_err-found-clause-counts g c =
+    let p = err_from_is_err_and c.from_residual.result c.from_residual.ensures.1 in
+    err_is {T = Option Found} c.from_residual.result c.in_err-found.field-0.0 p.0 p.1 p.2 c.in_err-found.ensures.counts
+
+pub returns-in_default-clause-counts : goal.returns-in_default-clause-counts
+returns-in_default-clause-counts g c = run_ok _ (run_by c.in_ok-found.ensures.counts)

@@ -34,7 +34,7 @@ pub log-requires-clause-can : goal.log-requires-clause-can
 log-requires-clause-can g c = λ t from m told. record { there = tt; fits = tt; known = tt; formed = formed_void (g.E.Engine.view c.args.self.now.engine) c.args.self.now.actor c.requires.over told; means = λ u. u }
 
 pub returns-in_err-lsn-clause-counts : goal.returns-in_err-lsn-clause-counts
-returns-in_err-lsn-clause-counts g c = 
+returns-in_err-lsn-clause-counts g c =
     let p = err_from_is_err_and c.from_residual.result c.from_residual.ensures.1 in
     engine_err {T = ℕ} c.from_residual.result c.in_err-lsn.field-0.0 p.0 p.1 p.2 c.in_err-lsn.ensures.grows.counts
 

@@ -1,6 +1,6 @@
-use Rattle.std.proofs.Common.{refl, sym, subst, ◌∙◌}
+use Rattle.std.proofs.Common.{refl, sym, subst, ◌∙◌, ◌<◌, arith}
 use Rattle.sg_ops.specs.Table.{table_of}
-use Rattle.sg_store.specs.Engine.{led, IsAt, IsDiskFault}
+use Rattle.sg_store.specs.Engine.{led, IsAt, IsDiskFault, IsNearEnd}
 use Rattle.sg_store.specs.Asks.{IsTakingBack}
 use Rattle.sg_store.proofs.Serving as serving
 use Rattle.sg_store.proofs.Taking as taking
@@ -10,6 +10,7 @@ use Rattle.sg_store.proofs.Accounting as accounting
 use Rattle.sg_recovery.proofs.Basic.{same_number}
 use Rattle.sg_store.specs.Room.{is_of}
 use Rattle.sg_store.proofs.Stocked.{backs_none, steps_left}
+use Rattle.sg_store.proofs.Nearing.{near_later}
 use Rattle.sg_store.proofs.store.Store.undo_one.Goals as goal
 
 pub returns-in-Ok-None-clause-stays : goal.returns-in-Ok-None-clause-stays
@@ -162,3 +163,118 @@ returns-then-after-at-clause-accounts g c =
     (let h = s.can one in
     taking.never_up t (g.E.Engine.basis s.sizes) h.lawful (led t s.sizes (s.from one) (g.E.Engine.view c.args.self.now.engine)) c.args.self.now.txns h.run c.args.txn.0 0 c.args.at h.undoing h.live (led t s.sizes (s.from one) (g.E.Engine.view c.undo_step.new.self)) c.undo_step.new.into c.in-Ok-Some.after (taking.all_low t (g.E.Engine.basis s.sizes) (led t s.sizes (s.from one) (g.E.Engine.view c.args.self.now.engine)) (led t s.sizes (s.from one) (g.E.Engine.view c.undo_step.new.self)) c.args.txn.0 c.undo_step.new.into c.in-Ok-Some.after (some t s.sizes (s.from one) (s.means one) one)) c.if-after-at.true))
     (accounting.unfailed_both (g.E.Engine.view c.args.self.now.engine) (g.E.Engine.view c.undo_step.new.self) (g.E.Engine.view c.broken.new.self) (accounting.unfailed_done (g.E.Engine.view c.args.self.now.engine) (g.E.Engine.view c.undo_step.new.self) _ c.in-Ok-Some.ensures.counts.accounts) (accounting.unasked (g.E.Engine.view c.undo_step.new.self) (g.E.Engine.view c.broken.new.self) c.broken.ensures.disk c.broken.ensures.gate))
+
+pub returns-in-Ok-None-clause-told : goal.returns-in-Ok-None-clause-told
+returns-in-Ok-None-clause-told g c = c.undo_step.ensures.counts.told
+
+pub returns-in-Err-clause-told : goal.returns-in-Err-clause-told
+returns-in-Err-clause-told g c = c.undo_step.ensures.counts.told
+
+pub returns-then-after-at-clause-told : goal.returns-then-after-at-clause-told
+returns-then-after-at-clause-told g c = λ told. c.undo_step.ensures.counts.told (c.broken.ensures.told told)
+
+pub returns-in-Err-reverse-clause-told : goal.returns-in-Err-reverse-clause-told
+returns-in-Err-reverse-clause-told g c = λ told. c.undo_step.ensures.counts.told (c.reverse.ensures.counts.told told)
+
+pub returns-in-Ok-end_undo-clause-told : goal.returns-in-Ok-end_undo-clause-told
+returns-in-Ok-end_undo-clause-told g c = λ told. c.undo_step.ensures.counts.told (c.reverse.ensures.counts.told (c.end_undo.ensures.counts.told told))
+
+pub returns-in-Err-end_undo-clause-told : goal.returns-in-Err-end_undo-clause-told
+returns-in-Err-end_undo-clause-told g c = λ told. c.undo_step.ensures.counts.told (c.reverse.ensures.counts.told (c.end_undo.ensures.counts.told told))
+
+pub returns-in-Ok-None-clause-tells : goal.returns-in-Ok-None-clause-tells
+returns-in-Ok-None-clause-tells g c = c.in-Ok-None.ensures.counts.tells
+
+pub returns-in-Ok-None-clause-quiet : goal.returns-in-Ok-None-clause-quiet
+returns-in-Ok-None-clause-quiet g c = c.in-Ok-None.ensures.counts.quiet
+
+pub returns-in-Ok-end_undo-clause-tells : goal.returns-in-Ok-end_undo-clause-tells
+returns-in-Ok-end_undo-clause-tells g c = λ told. c.in-Ok-end_undo.ensures.counts.tells (c.in-Ok.ensures.counts.tells (c.in-Ok-Some.ensures.counts.tells told))
+
+pub returns-in-Ok-end_undo-clause-quiet : goal.returns-in-Ok-end_undo-clause-quiet
+returns-in-Ok-end_undo-clause-quiet g c = c.in-Ok-end_undo.ensures.counts.quiet ∙ (c.in-Ok.ensures.counts.quiet ∙ c.in-Ok-Some.ensures.counts.quiet)
+
+pub returns-in-Ok-None-clause-later : goal.returns-in-Ok-None-clause-later
+returns-in-Ok-None-clause-later g c = c.undo_step.ensures.counts.later
+
+pub returns-in-Err-clause-later : goal.returns-in-Err-clause-later
+returns-in-Err-clause-later g c = c.undo_step.ensures.counts.later
+
+pub returns-then-after-at-clause-later : goal.returns-then-after-at-clause-later
+returns-then-after-at-clause-later g c = omega (arith, c.undo_step.ensures.counts.later, c.broken.ensures.later)
+
+pub returns-in-Err-reverse-clause-later : goal.returns-in-Err-reverse-clause-later
+returns-in-Err-reverse-clause-later g c = omega (arith, c.undo_step.ensures.counts.later, c.reverse.ensures.counts.later)
+
+pub returns-in-Ok-end_undo-clause-later : goal.returns-in-Ok-end_undo-clause-later
+returns-in-Ok-end_undo-clause-later g c = omega (arith, c.undo_step.ensures.counts.later, c.reverse.ensures.counts.later, c.end_undo.ensures.counts.later)
+
+pub returns-in-Err-end_undo-clause-later : goal.returns-in-Err-end_undo-clause-later
+returns-in-Err-end_undo-clause-later g c = omega (arith, c.undo_step.ensures.counts.later, c.reverse.ensures.counts.later, c.end_undo.ensures.counts.later)
+
+pub returns-in-Ok-None-clause-tail : goal.returns-in-Ok-None-clause-tail
+returns-in-Ok-None-clause-tail g c = c.undo_step.ensures.counts.tail
+
+pub returns-in-Err-clause-tail : goal.returns-in-Err-clause-tail
+returns-in-Err-clause-tail g c = c.undo_step.ensures.counts.tail
+
+pub returns-then-after-at-clause-tail : goal.returns-then-after-at-clause-tail
+returns-then-after-at-clause-tail g c = omega (arith, c.undo_step.ensures.counts.tail, c.broken.ensures.tail)
+
+pub returns-in-Err-reverse-clause-tail : goal.returns-in-Err-reverse-clause-tail
+returns-in-Err-reverse-clause-tail g c = omega (arith, c.undo_step.ensures.counts.tail, c.reverse.ensures.counts.tail)
+
+pub returns-in-Ok-end_undo-clause-tail : goal.returns-in-Ok-end_undo-clause-tail
+returns-in-Ok-end_undo-clause-tail g c = omega (arith, c.undo_step.ensures.counts.tail, c.reverse.ensures.counts.tail, c.end_undo.ensures.counts.tail)
+
+pub returns-in-Err-end_undo-clause-tail : goal.returns-in-Err-end_undo-clause-tail
+returns-in-Err-end_undo-clause-tail g c = omega (arith, c.undo_step.ensures.counts.tail, c.reverse.ensures.counts.tail, c.end_undo.ensures.counts.tail)
+
+pub returns-in-Err-clause-failed : goal.returns-in-Err-clause-failed
+returns-in-Err-clause-failed g c = c.in-Err.ensures.counts.failed
+
+pub returns-then-after-at-clause-failed : goal.returns-then-after-at-clause-failed
+returns-then-after-at-clause-failed g c = λ is few.
+    let q0 = c.in-Ok-Some.ensures.counts.quiet in
+    let r : (g.E.Engine.view c.undo_step.new.self).faults < (g.E.Engine.view c.broken.new.self).faults = c.broken.ensures.risen (omega (arith, few, q0)) in
+    omega (arith, r, q0)
+
+pub returns-in-Err-reverse-clause-failed : goal.returns-in-Err-reverse-clause-failed
+returns-in-Err-reverse-clause-failed g c = λ is few.
+    let q0 = c.in-Ok-Some.ensures.counts.quiet in
+    let r : (g.E.Engine.view c.undo_step.new.self).faults < (g.E.Engine.view c.reverse.new.self).faults = c.in-Err-reverse.ensures.counts.failed is (omega (arith, few, q0)) in
+    omega (arith, r, q0)
+
+pub returns-in-Err-end_undo-clause-failed : goal.returns-in-Err-end_undo-clause-failed
+returns-in-Err-end_undo-clause-failed g c = λ is few.
+    let q0 = c.in-Ok-Some.ensures.counts.quiet in
+    let q1 = c.in-Ok.ensures.counts.quiet in
+    let r : (g.E.Engine.view c.reverse.new.self).faults < (g.E.Engine.view c.end_undo.new.self).faults = c.in-Err-end_undo.ensures.counts.failed is (omega (arith, few, q0, q1)) in
+    omega (arith, r, q0, q1)
+
+pub returns-in-Err-clause-log_end : goal.returns-in-Err-clause-log_end
+returns-in-Err-clause-log_end g c = c.in-Err.ensures.log_end
+
+pub returns-in-Err-reverse-clause-log_end : goal.returns-in-Err-reverse-clause-log_end
+returns-in-Err-reverse-clause-log_end g c = c.in-Err-reverse.ensures.log_end
+
+pub returns-then-after-at-clause-log_end : goal.returns-then-after-at-clause-log_end
+returns-then-after-at-clause-log_end g c = subst (λ f. IsNearEnd (g.E.Engine.view c.broken.new.self).tail f) (sym c.broken.ensures.answer) tt
+
+pub returns-in-Err-end_undo-clause-log_end : goal.returns-in-Err-end_undo-clause-log_end
+returns-in-Err-end_undo-clause-log_end g c = near_later (g.E.Engine.view c.reverse.new.self).tail (g.E.Engine.view c.end_undo.new.self).tail c.in-Err-end_undo.fault c.end_undo.ensures.counts.tail c.in-Err-end_undo.ensures.log_end
+
+pub returns-in-Ok-None-clause-means : goal.returns-in-Ok-None-clause-means
+returns-in-Ok-None-clause-means g c z from m =
+    let t = table_of (λ y. (given.RecordOp-dyn g y).record_meaning y.1) (λ y. (given.RangeOp-dyn g y).range_meaning y.1) c.args.ops.now in
+    c.undo_step.ensures.means t z from m
+
+pub returns-in-Err-clause-means : goal.returns-in-Err-clause-means
+returns-in-Err-clause-means g c z from m =
+    let t = table_of (λ y. (given.RecordOp-dyn g y).record_meaning y.1) (λ y. (given.RangeOp-dyn g y).range_meaning y.1) c.args.ops.now in
+    c.undo_step.ensures.means t z from m
+
+pub returns-then-after-at-clause-means : goal.returns-then-after-at-clause-means
+returns-then-after-at-clause-means g c z from m =
+    let t = table_of (λ y. (given.RecordOp-dyn g y).record_meaning y.1) (λ y. (given.RangeOp-dyn g y).range_meaning y.1) c.args.ops.now in
+    c.broken.ensures.means t z from (c.undo_step.ensures.means t z from m)
