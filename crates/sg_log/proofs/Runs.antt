@@ -1,5 +1,5 @@
 -- Runs of calls that only read.
-use Rattle.std.proofs.Common.{◌≡◌, ◌≤◌, ◌+◌, ℕ, min, Bool, IsTrue, Result, Ok, Err, OnErr, refl, ◌∙◌, subst, arith}
+use Rattle.std.proofs.Common.{◌≡◌, ◌≤◌, ℕ, Bool, IsTrue, Result, Ok, Err, OnErr, refl, ◌∙◌, subst, arith}
 use Rattle.sg_base.specs.Ends.{HasRisen}
 use Rattle.sg_disk.specs.Disk.{State, View, Leaves, LeavesOnly, Counts, ReadBytes}
 use Rattle.sg_disk.proofs.Moments.{started, joined}
@@ -35,13 +35,3 @@ failed_later before mid now (Err e) le rose = risen_later before mid now le rose
 pub on_err : {T E P : Type 0} (r : Result T E) → P → OnErr r P
 on_err (Ok x) p = tt
 on_err (Err e) p = p
-
--- a count that was raised twice, as far as it is counted, or once and then left
-pub raised_twice : (before mid now first second top : ℕ) → mid ≡ min (before + first) top → now ≡ min (mid + second) top → now ≡ min (before + (first + second)) top
-raised_twice before mid now first second top one two = omega (arith, one, two)
-
-pub raised_then : (before mid now first second top : ℕ) → mid ≡ min (before + first) top → now ≡ min (mid + second) top → now ≡ min (before + first + second) top
-raised_then before mid now first second top one two = omega (arith, one, two)
-
-pub left_alone : (before now : ℕ) → before ≤ now → now ≤ before + 0 → now ≡ before
-left_alone before now least most = omega (arith, least, most)

@@ -1,6 +1,7 @@
 use Rattle.std.proofs.Common.{length, ◌∙◌, le_trans}
 use Rattle.sg_disk.specs.Disk.{FULL}
-use Rattle.sg_log.proofs.Runs.{risen_later, on_err, raised_twice, raised_then, left_alone}
+use Rattle.sg_disk.proofs.Counted.{raised_twice, raised_then, left_alone}
+use Rattle.sg_log.proofs.Runs.{risen_later, on_err}
 use Rattle.sg_log.proofs.Steps.{after_write, after_sync, after_gate, after_all, done, others_done}
 use Rattle.sg_log.proofs.frame.write_frame.Goals as goal
 

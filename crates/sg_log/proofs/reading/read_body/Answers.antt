@@ -1,7 +1,8 @@
 use Rattle.std.proofs.Common.{◌≡◌, ◌+◌, ◌≤◌, length, drop, refl, ◌∙◌, sym, subst, arith}
 use Rattle.std.proofs.lemmas.List.{length-take-le}
 use Rattle.sg_log.specs.Formed.{HasBody}
-use Rattle.sg_log.proofs.Runs.{reads_one, reads_more, raised_twice}
+use Rattle.sg_disk.proofs.Counted.{raised_twice}
+use Rattle.sg_log.proofs.Runs.{reads_one, reads_more}
 use Rattle.sg_log.proofs.Windows.{read_there, front_read}
 use Rattle.sg_log.proofs.Formed.{body_by, unformed_length}
 use Rattle.sg_log.proofs.reading.read_body.Goals as goal
