@@ -1,11 +1,12 @@
 -- The gates and texts of slots that were read.
-use Rattle.std.proofs.Common.{refl, ◌≡◌, ◌↔◌, ◌+◌, ◌==◌, ℕ, Bool, IsTrue, Option, Some, None, Result, IfErr, List, length, take, drop, get_or, sym, ◌∙◌, ap, subst, arith}
+use Rattle.std.proofs.Common.{refl, ◌≡◌, ◌↔◌, ◌+◌, ◌==◌, ℕ, Bool, true, false, if◌then◌else◌, min, IsTrue, Option, Some, None, Result, IfErr, List, length, take, drop, get_or, sym, ◌∙◌, ap, subst, arith}
 use Rattle.std.proofs.lemmas.Bool.Decides.{nat_tests}
 use Rattle.std.proofs.Math.Seq.{take-length}
 use Rattle.sg_base.specs.declared.area.Area.TheVariants.{Home}
 use Rattle.sg_disk.specs.Disk.{Bytes, State, View, LeavesOnly, window}
+use Rattle.sg_disk.proofs.Counted.{raised_twice}
 use Rattle.sg_gate.specs.Faults.{ReadFails}
-use Rattle.sg_gate.specs.Superblock.{start_of, text_at, counting, spare, spare_of, spelled, read_with, read_text, superblock, wrong_in, IsSuper, IsText, IsNewer, IsSpare, IsRenewing, IsRenewed}
+use Rattle.sg_gate.specs.Superblock.{start_of, text_at, counting, spare, spare_of, spelled, read_with, read_text, superblock, wrong_in, IsSuper, IsText, IsNewer, IsSpare, IsRenewing, IsRenewed, renewing_calls, renewing_bytes}
 use Rattle.sg_gate.specs.declared.fault.GateFault.{GateFault}
 use Rattle.sg_gate.specs.declared.slot.Slot.{Slot}
 use Rattle.sg_gate.specs.declared.superblock.Super.{Super}
@@ -59,3 +60,18 @@ moments_there v z s slot o found counted is arm run = subst (λ (at : ℕ). Leav
 pub renewed_there : (r s t : State) (new : Super) (slot : Slot) (o : Option Slot) (found : Slot) → o ≡ counting (r Home).seen → found ≡ spare o → found ≡ slot → s ≡ r → IsRenewed s t new (start_of slot) → IsRenewed r t new (spare_of (r Home).seen)
 renewed_there r s t new slot o found counted is arm same done =
     subst (λ (at : ℕ). IsRenewed r t new at) (sym (spare_at (r Home).seen slot o found counted is arm)) (subst (λ (u : State). IsRenewed u t new (start_of slot)) same done)
+
+-- What a renewal calls and hands over: both slots are read, and the one that doesn't count is written, and closed before where it is open.
+module _ (f : Bytes) (slot : Slot) (o : Option Slot) (found : Slot) (counted : o ≡ counting f) (is : found ≡ spare o) (arm : found ≡ slot) (is_open : Bool) (same : is_open ≡ (f (start_of slot) == 1)) (before mid now top : ℕ) where
+  open_there : is_open ≡ (f (spare_of f) == 1)
+  open_there = same ∙ ap (λ (at : ℕ). f at == 1) (sym (spare_at f slot o found counted is arm))
+
+  calls_by : mid ≡ min (before + 2) top → (b : Bool) → now ≡ min (mid + (if b then 6 else 4)) top → now ≡ min (before + (if b then 8 else 6)) top
+  calls_by read true wrote = raised_twice before mid now 2 6 top read wrote
+  calls_by read false wrote = raised_twice before mid now 2 4 top read wrote
+
+  pub renewed_calls : mid ≡ min (before + 2) top → now ≡ min (mid + (if is_open then 6 else 4)) top → now ≡ min (before + renewing_calls f) top
+  renewed_calls read wrote = subst (λ (b : Bool). now ≡ min (before + (if b then 8 else 6)) top) open_there (calls_by read is_open wrote)
+
+  pub renewed_bytes : mid ≡ before → now ≡ min (mid + (if is_open then 45 else 44)) top → now ≡ min (before + renewing_bytes f) top
+  renewed_bytes read wrote = subst (λ (b : Bool). now ≡ min (before + (if b then 45 else 44)) top) open_there (subst (λ (n : ℕ). now ≡ min (n + (if is_open then 45 else 44)) top) read wrote)

@@ -1,12 +1,10 @@
 -- The gate of the double-write header is closed.
-use Rattle.std.proofs.Common.{◌≡◌, ◌≢◌, ℕ, [], ◌∷◌, Result, Ok, refl, sym, ◌∙◌, ap, subst, arith}
+use Rattle.std.proofs.Common.{◌≡◌, [], ◌∷◌, Result, Ok, subst}
 use Rattle.sg_base.specs.declared.area.Area.TheVariants.{Home}
-use Rattle.sg_disk.specs.Disk.{Image, Part, State, Spoils, Leaves, View, Wrote, Synced, LeavesOnly, synced_part, written_part, written, synced}
+use Rattle.sg_disk.specs.Disk.{Image, State, Leaves, View, Wrote, Synced, LeavesOnly, written}
 use Rattle.sg_disk.proofs.Images.{write_keeps}
 use Rattle.sg_disk.proofs.Moments.{joined, weaker}
-use Rattle.sg_disk.proofs.Parts.{part_written, part_synced, other_written, other_synced}
 use Rattle.sg_gate.specs.Layout.{HEADER}
-use Rattle.sg_gate.specs.Batch.{IsShut}
 use Rattle.sg_gate.proofs.Settling.{in_write, in_sync}
 
 -- a read takes no image away

@@ -1,10 +1,10 @@
 -- Frames that are copied to another area, and what is left of a log there.
-use Rattle.std.proofs.Common.{add-zero, ◌≡◌, ◌≢◌, ◌⊎◌, inl, inr, ⊎_elim, Bool, ℕ, zero, suc, ◌+◌, ◌-◌, ◌<◌, ◌≤◌, List, [], ◌∷◌, ◌++◌, Result, Ok, length, take, get_or, IsTrue, refl, sym, ◌∙◌, ap, subst, arith, length-append, append_assoc}
+use Rattle.std.proofs.Common.{add-zero, ◌≡◌, ⊎_elim, Bool, ℕ, zero, suc, ◌+◌, ◌-◌, ◌<◌, ◌≤◌, List, [], ◌∷◌, ◌++◌, Result, Ok, length, get_or, IsTrue, refl, sym, ◌∙◌, ap, subst, arith, append_assoc}
 use Rattle.std.proofs.lemmas.Bool.{cases_lt}
 use Rattle.sg_base.specs.declared.area.Area.{Area}
 use Rattle.sg_base.specs.declared.area.Area.TheVariants.{Home, Log0, Log1}
-use Rattle.sg_disk.specs.Disk.{Bytes, Image, Part, State, LeavesPart, Leaves, View, Wrote, Dropped, Synced, LeavesOnly, window, put, cut, dropped_part, written, dropped, synced_part}
-use Rattle.sg_disk.proofs.Parts.{part_written, part_synced, leaves_other, other_written, other_synced, put_inside, window_agree, at_area_other}
+use Rattle.sg_disk.specs.Disk.{Bytes, Image, Part, State, LeavesPart, Leaves, View, Dropped, Synced, LeavesOnly, window, put, dropped_part, written, dropped}
+use Rattle.sg_disk.proofs.Parts.{part_written, part_synced, leaves_other, other_written, other_synced, put_inside, at_area_other}
 use Rattle.sg_disk.proofs.Images.{put_outside}
 use Rattle.sg_disk.proofs.Moments.{goes_on, joined, weaker}
 use Rattle.sg_log.specs.Reads.{OnlyReads}
@@ -12,8 +12,8 @@ use Rattle.sg_record.specs.Records.{Record}
 use Rattle.sg_log.specs.Texts.{spelled_all}
 use Rattle.sg_log.specs.Formed.{IsFormed}
 use Rattle.sg_log.specs.Frames.{Numbered, numbered_from, numbered_in, text_of, Frames, gate_after, SameElsewhere}
-use Rattle.sg_log.specs.Held.{Tail, Holds, tail_of}
-use Rattle.sg_log.specs.Cut.{other_log, IsHolding, IsSplit, gate_of, gone_of, kept_of, Spares, IsCopied, cut_to}
+use Rattle.sg_log.specs.Held.{Tail, Holds}
+use Rattle.sg_log.specs.Cut.{other_log, IsHolding, IsSplit, gate_of, kept_of, Spares, IsCopied, cut_to}
 use Rattle.sg_log.proofs.Steps.{gate_later}
 use Rattle.sg_log.proofs.Standing.{Frames-behind, gate_behind}
 use Rattle.sg_log.proofs.Holding.{gate_moved, text-length}

@@ -30,3 +30,8 @@ risen_later before mid now le rose = λ top. let later = rose top in omega (arit
 pub failed_later : {T E : Type 0} (before mid now : ℕ) (r : Result T E) → before ≤ mid → OnErr r (HasRisen mid now) → OnErr r (HasRisen before now)
 failed_later before mid now (Ok x) le rose = tt
 failed_later before mid now (Err e) le rose = risen_later before mid now le rose
+
+-- what holds behind a refusal
+pub on_err : {T E P : Type 0} (r : Result T E) → P → OnErr r P
+on_err (Ok x) p = tt
+on_err (Err e) p = p

@@ -3,7 +3,7 @@ use Rattle.std.proofs.Common.{◌≡◌, ◌⊎◌, inl, inr, ⊎_elim, ◌<◌,
 use Rattle.sg_base.specs.declared.area.Area.TheVariants.{Home}
 use Rattle.sg_disk.specs.Disk.{Bytes, Image, Part, State, LeavesOnly, View}
 use Rattle.sg_disk.proofs.Moments.{weaker, joined}
-use Rattle.sg_gate.specs.Layout.{HEADER, home_at, IsStore}
+use Rattle.sg_gate.specs.Layout.{home_at, IsStore}
 use Rattle.sg_gate.specs.Batch.{homed, IsReady, IsWhole, IsEither, IsBatch, SameLogs}
 use Rattle.sg_pool.specs.Going.{IsStored}
 use Rattle.sg_pool.specs.Units.{Geometry, page_at, band_byte}

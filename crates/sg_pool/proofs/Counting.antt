@@ -1,5 +1,5 @@
 -- What calls leave of the disk's counts, one after another.
-use Rattle.std.proofs.Common.{◌≡◌, ◌≤◌, ◌+◌, inl, inr, ⊎_elim, Bool, true, false, Result, Ok, Err, ◌∙◌, arith}
+use Rattle.std.proofs.Common.{◌≡◌, ◌≤◌, inl, inr, ⊎_elim, Bool, true, false, Result, Ok, Err, ◌∙◌, arith}
 use Rattle.std.specs.Bool.{OnFalse}
 use Rattle.sg_disk.specs.Disk.{View}
 use Rattle.sg_disk.specs.Heeds.{Heeds}

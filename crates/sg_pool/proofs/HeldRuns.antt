@@ -1,15 +1,13 @@
 -- The pages of frames are repeated at once: a run without a call of the disk.
-use Rattle.std.proofs.Common.{◌≡◌, ◌≢◌, ◌⊎◌, inl, inr, ⊎_elim, ◌<◌, ◌≤◌, ◌+◌, ◌^◌, ℕ, Bool, IsTrue, Option, None, Some, Result, Ok, Err, List, [], ◌∷◌, length, get_or, refl, sym, ◌∙◌, ap, subst, arith}
-use Rattle.std.specs.Prelude.{All, nat_eq}
+use Rattle.std.proofs.Common.{◌≡◌, inl, ⊎_elim, ◌<◌, ◌≤◌, ◌+◌, ◌^◌, ℕ, Bool, IsTrue, Option, None, Some, Ok, List, [], length, get_or, refl, sym, ◌∙◌, ap, subst, arith}
+use Rattle.std.specs.Prelude.{nat_eq}
 use Rattle.std.specs.Map.{lookup}
 use Rattle.std.proofs.lemmas.List.Elements.{All-filter}
 use Rattle.sg_base.specs.Page.{lsn_of}
 use Rattle.sg_base.specs.declared.area.Area.{Area}
 use Rattle.sg_base.specs.declared.area.Area.TheVariants.{Home}
-use Rattle.sg_base.specs.declared.page.TheConstants.{BAND_SIZE}
 use Rattle.sg_disk.specs.Disk.{Image, Leaves, View}
 use Rattle.sg_disk.proofs.Moments.{started}
-use Rattle.sg_frames.specs.Held.{Held}
 use Rattle.sg_gate.specs.Layout.{home_at}
 use Rattle.sg_log.specs.Frames.{Numbered}
 use Rattle.sg_log.specs.Held.{Tail, tail_of}
@@ -19,18 +17,17 @@ use Rattle.sg_redo.specs.declared.place.Place.{Place}
 use Rattle.sg_redo.specs.History.{OnPage, repeated, since_repeated}
 use Rattle.sg_redo.specs.Places.{page_records, window_records}
 use Rattle.sg_redo.specs.Window.{OnWindow}
-use Rattle.sg_pool.specs.declared.fault.PoolFault.{PoolFault}
 use Rattle.sg_pool.specs.declared.pool.Pool.{Pool}
 use Rattle.sg_pool.specs.declared.slot.Slot.{Slot}
 use Rattle.sg_pool.specs.declared.windows.Windows.{Windows}
 use Rattle.sg_pool.specs.Frames.{AreBelow, byte_in, window_of}
-use Rattle.sg_pool.specs.Held.{no_slot, frame_of, page_in, since_of, bytes_of}
-use Rattle.sg_pool.specs.Pooled.{sizes, contents, frame_holding, uses, Backs, IsLogged}
-use Rattle.sg_pool.specs.Redone.{ArePlacesBelow, PartRecords, places_of, records_of, IsRedone, IsBandRedone, AreHomesKnown}
+use Rattle.sg_pool.specs.Held.{frame_of, since_of, bytes_of}
+use Rattle.sg_pool.specs.Pooled.{sizes, contents, uses, Backs, IsLogged}
+use Rattle.sg_pool.specs.Redone.{ArePlacesBelow, places_of, records_of, IsRedone, IsBandRedone, AreHomesKnown}
 use Rattle.sg_pool.specs.Redoing.{IsDurable, IsRun}
 use Rattle.sg_pool.specs.Shelves.{lasts}
 use Rattle.sg_pool.specs.Together.{records_for, AreRepeated}
-use Rattle.sg_pool.specs.Units.{Geometry, Units, IsBelow, page_at, band_byte}
+use Rattle.sg_pool.specs.Units.{Geometry, IsBelow, page_at, band_byte}
 use Rattle.sg_pool.specs.Windows.{marked_in}
 use Rattle.sg_pool.proofs.BandsHome.{lasts_same}
 use Rattle.sg_pool.proofs.Changes.{none_repeated}

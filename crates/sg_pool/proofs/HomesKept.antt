@@ -9,7 +9,6 @@ use Rattle.sg_gate.specs.Layout.{PAGE, HEADER, home_at}
 use Rattle.sg_pool.specs.declared.slot.Slot.{Slot}
 use Rattle.sg_pool.specs.declared.windows.Windows.{Windows}
 use Rattle.sg_pool.specs.Bands.{AreBandsHome, AreCleared}
-use Rattle.sg_pool.specs.Batches.{IsPartly}
 use Rattle.sg_pool.specs.Frames.{units_of, IsShelf, IsWritten, IsAtHome}
 use Rattle.sg_pool.specs.Going.{with_home}
 use Rattle.sg_pool.specs.Held.{no_slot, frame_of, page_in, since_of}
@@ -19,7 +18,7 @@ use Rattle.sg_pool.proofs.Banding.{dirty_is}
 use Rattle.sg_pool.proofs.Clearing.{frames_same}
 use Rattle.sg_pool.proofs.Homed.{homed_out, homed_other, homed_band}
 use Rattle.sg_pool.proofs.Homes.{page_same}
-use Rattle.sg_pool.proofs.Slots.{some_same, none_is_some, none_or_some, frame_is, frame_kept, set_here}
+use Rattle.sg_pool.proofs.Slots.{none_is_some, frame_is, frame_kept, set_here}
 
 -- no byte of the home area has changed
 pub untouched_same : (g : Geometry) (a b : Bytes) (m : Units) → b ≡ a → IsUntouched g a b m

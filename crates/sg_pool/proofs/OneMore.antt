@@ -1,5 +1,5 @@
 -- One page more is lent, replayed beside others, and taken back.
-use Rattle.std.proofs.Common.{◌≡◌, ◌≢◌, ◌⊎◌, inl, inr, ⊎_elim, ◌<◌, ◌≤◌, ◌+◌, ◌-◌, ℕ, zero, suc, true, false, Option, None, Some, List, [], ◌∷◌, ◌++◌, length, get_or, set, take, drop, refl, sym, ◌∙◌, ap, subst, arith, length-take, length-drop, length-set, get_or-take, get_or-drop, get_or-set_same, get_or-set_other, append-nil, length-append}
+use Rattle.std.proofs.Common.{◌≡◌, ◌≢◌, ◌⊎◌, ⊎_elim, ◌<◌, ◌≤◌, ◌+◌, ◌-◌, ℕ, zero, suc, true, Option, None, Some, List, [], ◌∷◌, ◌++◌, length, get_or, set, take, drop, refl, sym, ◌∙◌, ap, subst, arith, length-take, length-drop, length-set, get_or-take, get_or-drop, get_or-set_same, get_or-set_other, append-nil, length-append}
 use Rattle.std.specs.Prelude.{All, slice_index_or, ◌==◌}
 use Rattle.std.specs.Ptr.{Ptr, null_ptr}
 use Rattle.std.specs.List.Sorted.{IsNonDecreasingBy}
@@ -17,7 +17,7 @@ use Rattle.sg_redo.specs.declared.place.Place.{Place}
 use Rattle.sg_redo.specs.declared.unit.Unit as code
 use Rattle.sg_redo.specs.History.{OnPage, repeated, since_repeated}
 use Rattle.sg_redo.specs.Places.{page_records}
-use Rattle.sg_redo.specs.Units.{StaysWell, is_page, lent_at, own_places, replayed_unit}
+use Rattle.sg_redo.specs.Units.{StaysWell, is_page, own_places, replayed_unit}
 use Rattle.sg_redo.proofs.Replayed.{lent_same}
 use Rattle.sg_pool.specs.declared.slot.Slot.{Slot}
 use Rattle.sg_pool.specs.declared.windows.Windows.{Windows}

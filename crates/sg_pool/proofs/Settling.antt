@@ -1,5 +1,5 @@
 -- A page goes home, after a force where it isn't durable: what holds of the log, and each moment.
-use Rattle.std.proofs.Common.{◌≡◌, inl, inr, ⊎_elim, ◌<◌, ◌≤◌, ◌+◌, ◌*◌, ℕ, List, [], ◌++◌, length, refl, sym, ◌∙◌, ap, subst, arith}
+use Rattle.std.proofs.Common.{◌≡◌, inl, inr, ⊎_elim, ◌<◌, ℕ, List, [], ◌++◌, length, refl, sym, ◌∙◌, ap, subst, arith}
 use Rattle.std.proofs.lemmas.Bool.{cases_eq}
 use Rattle.sg_base.specs.declared.area.Area.{Area}
 use Rattle.sg_base.specs.declared.area.Area.TheVariants.{Home}
@@ -9,7 +9,7 @@ use Rattle.sg_disk.proofs.Moments.{weaker, joined}
 use Rattle.sg_log.specs.Frames.{Numbered, HasRecords, Frames, SameElsewhere}
 use Rattle.sg_log.specs.Held.{Tail, Holds, tail_of, forced, IsBeforeOrAfter}
 use Rattle.sg_log.proofs.Holding.{holds_seen, tail_forced, tail_empty, forced_empty}
-use Rattle.sg_gate.specs.Layout.{PAGE, HEADER, HOMES, home_at}
+use Rattle.sg_gate.specs.Layout.{PAGE, HEADER, home_at}
 use Rattle.sg_gate.proofs.Over.{laid_open, laid_shut, over_low}
 use Rattle.sg_disk.proofs.Images.{put_outside}
 use Rattle.sg_gate.specs.Batch.{laid, numbers_of, IsWhole, IsEither, SameLogs}

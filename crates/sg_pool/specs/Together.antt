@@ -8,7 +8,7 @@ use Rattle.sg_redo.specs.declared.unit.Unit as code
 use Rattle.sg_redo.specs.History.{OnPage, repeated, since_repeated}
 use Rattle.sg_redo.specs.Places.{page_records}
 use Rattle.sg_pool.specs.declared.slot.Slot.{Slot}
-use Rattle.sg_pool.specs.Held.{no_slot, frame_of, page_in, since_of, AreApart, IsIndex}
+use Rattle.sg_pool.specs.Held.{no_slot, page_in, since_of, AreApart, IsIndex}
 use Rattle.sg_pool.specs.Redone.{places_of}
 use Rattle.sg_pool.specs.Well.{IsWell}
 

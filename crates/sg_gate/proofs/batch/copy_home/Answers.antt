@@ -1,7 +1,8 @@
 use Rattle.std.proofs.Common.{◌≡◌, ◌+◌, ◌*◌, ℕ, length, min, refl, subst, sym, ◌∙◌, ap, add-one, arith}
 use Rattle.sg_disk.specs.Disk.{FULL}
 use Rattle.sg_gate.specs.Layout.{PAGE}
-use Rattle.sg_gate.proofs.Costs.{raised_more}
+use Rattle.sg_disk.proofs.Counted.{raised_twice}
+use Rattle.sg_gate.proofs.Costs.{raised_more, page_calls}
 use Rattle.sg_gate.proofs.Copies.{IsCopied, copied_starts, copied_page, all_bytes, all_done}
 use Rattle.sg_gate.proofs.Copying.{so_far_starts, after_page, aside_more, after_sync, after_gate, after_last}
 use Rattle.sg_gate.proofs.batch.copy_home.Goals as goal
@@ -81,3 +82,11 @@ returns-clause-logs g c told =
     let at_end : c.pages.k ≡ length c.args.numbers.now = omega arith in
     let copied = subst (λ (j : ℕ). IsCopied (g.D.Disk.view c.args.disk.now) c.args.numbers.now c.requires.most j (g.D.Disk.view c.pages.disk).now) at_end (c.pages.invariant.copied c.requires.most told) in
     (all_done (g.D.Disk.view c.args.disk.now) c.args.numbers.now c.requires.most (g.D.Disk.view c.pages.disk).now copied {w = g.D.Disk.view c.pages.disk} refl (c.in_ok-sync.ensures.does told) (c.in_ok-write_at.ensures.does told) (c.in_ok-sync-2.ensures.does told)).1
+
+pub returns-clause-calls : goal.returns-clause-calls
+returns-clause-calls g c =
+    let v = g.D.Disk.view c.args.disk.now in
+    let k = c.pages.k in
+    let last : k ≡ length c.args.numbers.now = omega arith in
+    let three = raised_twice _ _ _ 2 1 FULL (raised_twice _ _ _ 1 1 FULL c.sync.ensures.counts.calls c.write_at.ensures.counts.calls) c.sync-2.ensures.counts.calls in
+    page_calls v.calls (g.D.Disk.view c.pages.disk).calls (g.D.Disk.view c.sync-2.new.self).calls k (length c.args.numbers.now) FULL last c.pages.invariant.calls.0 c.pages.invariant.calls.1 three

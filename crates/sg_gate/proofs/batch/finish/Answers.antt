@@ -1,8 +1,10 @@
+use Rattle.std.proofs.Common.{length}
 use Rattle.std.proofs.Common.{inr, ◌∙◌}
 use Rattle.sg_base.specs.declared.area.Area.TheVariants.{Home}
 use Rattle.sg_disk.specs.Disk.{Image}
 use Rattle.sg_disk.proofs.Moments.{joined, weaker}
 use Rattle.sg_gate.specs.Batch.{homed}
+use Rattle.sg_gate.proofs.Costs.{batch_calls, batch_bytes}
 use Rattle.sg_gate.proofs.Headers.{homed_same, whole_same, done_same}
 use Rattle.sg_gate.proofs.batch.finish.Goals as goal
 
@@ -38,3 +40,9 @@ returns-clause-done g c told =
 
 pub returns-clause-logs : goal.returns-clause-logs
 returns-clause-logs g c told b other = c.in_ok-copy_home.ensures.logs told b other ∙ (c.in_ok-open_batch.ensures.done told).logs b other
+
+pub returns-clause-calls : goal.returns-clause-calls
+returns-clause-calls g c = batch_calls _ _ _ (length c.args.numbers.now) _ c.in_ok-open_batch.ensures.calls c.in_ok-copy_home.ensures.calls
+
+pub returns-clause-all_handed : goal.returns-clause-all_handed
+returns-clause-all_handed g c = batch_bytes _ _ _ (length c.args.numbers.now) _ c.in_ok-open_batch.ensures.all_handed c.in_ok-copy_home.ensures.all_handed

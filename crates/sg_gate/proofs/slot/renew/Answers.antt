@@ -1,9 +1,9 @@
 use Rattle.std.proofs.Common.{sym, subst, refl}
 use Rattle.sg_base.specs.declared.area.Area.TheVariants.{Home}
-use Rattle.sg_disk.specs.Disk.{State}
+use Rattle.sg_disk.specs.Disk.{State, FULL}
 use Rattle.sg_gate.specs.Superblock.{spare_of, IsSpare}
 use Rattle.sg_gate.specs.declared.slot.Slot.TheVariants.{First, Second}
-use Rattle.sg_gate.proofs.Fronts.{gate_open, spare_text, spare_here, moments_there, renewed_there}
+use Rattle.sg_gate.proofs.Fronts.{gate_open, gate_same, renewed_calls, renewed_bytes, spare_text, spare_here, moments_there, renewed_there}
 use Rattle.sg_gate.proofs.Renewing.{after_reads}
 use Rattle.sg_gate.proofs.slot.renew.Goals as goal
 
@@ -72,3 +72,27 @@ returns-in_ok-renew_slot-in-Second-clause-done g c told newer =
     let same = c.read_slots.ensures.reads.unchanged told in
     renewed_there v.now (g.D.Disk.view c.read_slots.new.disk).now (g.D.Disk.view c.renew_slot-in-Second.new.disk).now c.args.s.now Second c.in_ok-read_slots.field-0 c.spare.result (c.in_ok-read_slots.ensures.counting told) c.spare.ensures c.in-Second.is same
     (c.in_ok-renew_slot-in-Second.ensures.done c.args.s.now told (subst (λ (t : State). IsSpare (t Home).seen c.args.s.now text 4096) (sym same) spare))
+
+pub returns-in_ok-renew_slot-in-First-clause-calls : goal.returns-in_ok-renew_slot-in-First-clause-calls
+returns-in_ok-renew_slot-in-First-clause-calls g c told =
+    let f = ((g.D.Disk.view c.args.disk.now).now Home).seen in
+    renewed_calls f First c.in_ok-read_slots.field-0 c.spare.result (c.in_ok-read_slots.ensures.counting told) c.spare.ensures c.in-First.is _ (gate_same f 0 44 c.read_slots.new.first (c.in_ok-read_slots.ensures.first told) refl) _ _ _ FULL
+    c.in_ok-read_slots.ensures.calls c.in_ok-renew_slot-in-First.ensures.calls
+
+pub returns-in_ok-renew_slot-in-First-clause-all_handed : goal.returns-in_ok-renew_slot-in-First-clause-all_handed
+returns-in_ok-renew_slot-in-First-clause-all_handed g c told =
+    let f = ((g.D.Disk.view c.args.disk.now).now Home).seen in
+    renewed_bytes f First c.in_ok-read_slots.field-0 c.spare.result (c.in_ok-read_slots.ensures.counting told) c.spare.ensures c.in-First.is _ (gate_same f 0 44 c.read_slots.new.first (c.in_ok-read_slots.ensures.first told) refl) _ _ _ FULL
+    c.read_slots.ensures.reads.handed c.in_ok-renew_slot-in-First.ensures.all_handed
+
+pub returns-in_ok-renew_slot-in-Second-clause-calls : goal.returns-in_ok-renew_slot-in-Second-clause-calls
+returns-in_ok-renew_slot-in-Second-clause-calls g c told =
+    let f = ((g.D.Disk.view c.args.disk.now).now Home).seen in
+    renewed_calls f Second c.in_ok-read_slots.field-0 c.spare.result (c.in_ok-read_slots.ensures.counting told) c.spare.ensures c.in-Second.is _ (gate_same f 4096 44 c.read_slots.new.second (c.in_ok-read_slots.ensures.second told) refl) _ _ _ FULL
+    c.in_ok-read_slots.ensures.calls c.in_ok-renew_slot-in-Second.ensures.calls
+
+pub returns-in_ok-renew_slot-in-Second-clause-all_handed : goal.returns-in_ok-renew_slot-in-Second-clause-all_handed
+returns-in_ok-renew_slot-in-Second-clause-all_handed g c told =
+    let f = ((g.D.Disk.view c.args.disk.now).now Home).seen in
+    renewed_bytes f Second c.in_ok-read_slots.field-0 c.spare.result (c.in_ok-read_slots.ensures.counting told) c.spare.ensures c.in-Second.is _ (gate_same f 4096 44 c.read_slots.new.second (c.in_ok-read_slots.ensures.second told) refl) _ _ _ FULL
+    c.read_slots.ensures.reads.handed c.in_ok-renew_slot-in-Second.ensures.all_handed

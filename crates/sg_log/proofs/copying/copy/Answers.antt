@@ -1,4 +1,4 @@
-use Rattle.std.proofs.Common.{◌≡◌, ◌≤◌, ◌<◌, ◌+◌, ◌-◌, refl, sym, ◌∙◌, arith}
+use Rattle.std.proofs.Common.{◌∙◌, arith}
 use Rattle.sg_log.proofs.copying.copy.Goals as goal
 use Rattle.sg_log.proofs.copying.copy.Goals.{then-left-lt4096, else-left-lt4096}
 

@@ -5,7 +5,6 @@ use Rattle.std.specs.Prelude.{replicate}
 use Rattle.std.proofs.lemmas.List.{length-replicate}
 use Rattle.sg_disk.specs.Disk.{window, State}
 use Rattle.sg_disk.proofs.Moments.{goes_on}
-use Rattle.sg_log.specs.Cut.{IsCopied}
 use Rattle.sg_log.proofs.Cutting.{spare_now, spare_written, same_now, copied_more, copied_now}
 use Rattle.sg_log.proofs.Runs.{risen_later}
 use Rattle.sg_log.proofs.Windows.{front_read, read_there}

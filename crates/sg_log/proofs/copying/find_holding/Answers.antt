@@ -1,11 +1,6 @@
-use Rattle.std.proofs.Common.{◌≡◌, ◌≤◌, ◌<◌, ◌+◌, ◌-◌, List, length, refl, sym, ◌∙◌, ap, subst, arith}
-use Rattle.sg_disk.specs.Disk.{State}
-use Rattle.sg_record.specs.Records.{Record}
-use Rattle.sg_log.specs.Texts.{spelled_all}
-use Rattle.sg_log.specs.Frames.{Frames, gate_after}
-use Rattle.sg_log.specs.Formed.{IsFormed}
-use Rattle.sg_log.proofs.Runs.{reads_none, reads_more}
-use Rattle.sg_log.proofs.Cutting.{sought_first, sought_next, next_sought, next_holds, size_there}
+use Rattle.std.proofs.Common.{◌∙◌, arith}
+use Rattle.sg_log.proofs.Runs.{reads_more}
+use Rattle.sg_log.proofs.Cutting.{sought_next, next_sought, next_holds, size_there}
 use Rattle.sg_log.proofs.copying.find_holding.Goals as goal
 
 pub returns-in_err-size-clause-reads : goal.returns-in_err-size-clause-reads

@@ -1,6 +1,7 @@
 use Rattle.std.proofs.Common.{◌≡◌, ◌+◌, ◌≤◌, length, drop, refl, ◌∙◌, sym, subst, arith}
 use Rattle.std.proofs.lemmas.List.{length-take-le}
 use Rattle.sg_log.specs.Formed.{HasBody}
+use Rattle.sg_disk.proofs.Counted.{raised_twice}
 use Rattle.sg_log.proofs.Runs.{reads_one, reads_more}
 use Rattle.sg_log.proofs.Windows.{read_there, front_read}
 use Rattle.sg_log.proofs.Formed.{body_by, unformed_length}
@@ -39,3 +40,6 @@ returns-clause-body g c told =
     let long : length c.read_at-2.new.into ≡ size = c.read_at-2.auto.into ∙ length-take-le size c.args.space.now fits in
     subst (HasBody f c.args.at) (sym (front_read c.read_at-2.new.into (drop size c.args.space.now) size long))
     (body_by f c.args.at c.read_at.new.into c.read_at-2.new.into size (c.in_ok-read_at.ensures.bytes told) c.if-head-ne1.false c.read_u32-size.ensures.back body long)
+
+pub returns-clause-calls : goal.returns-clause-calls
+returns-clause-calls g c = raised_twice _ _ _ 1 1 _ c.read_at.ensures.counts.calls c.read_at-2.ensures.counts.calls

@@ -1,4 +1,4 @@
-use Rattle.std.proofs.Common.{rules, ◌<◌, subst, arith}
+use Rattle.std.proofs.Common.{rules, arith}
 use Rattle.sg_pool.proofs.Grouped.{IsGroup, front_first, front_next}
 use Rattle.sg_pool.proofs.Placed.{no_place}
 use Rattle.sg_pool.proofs.part.end_of_pages.Goals as goal

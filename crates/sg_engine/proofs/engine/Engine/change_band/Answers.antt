@@ -1,8 +1,9 @@
 use Rattle.sg_record.specs.Shown.{shown}
 use Rattle.sg_log.specs.Held.{numbered, durable_after, waiting_after}
-use Rattle.std.proofs.Common.{sym, subst}
+use Rattle.std.proofs.Common.{sym, ◌∙◌, subst, le_trans}
 use Rattle.sg_engine.specs.Calls.{WaitsFrame}
-use Rattle.sg_engine.proofs.Waits.{waits_appended, waits_kept}
+use Rattle.sg_pool.proofs.Counting.{grown_then}
+use Rattle.sg_engine.proofs.Waits.{waits_appended, waits_kept, tail_kept, ok_no_err}
 use Rattle.sg_engine.proofs.Pools.{apart1, backs1, logged1, moments1, band1, band_early, append_moments}
 use Rattle.sg_engine.proofs.engine.Engine.change_band.Goals as goal
 
@@ -90,3 +91,33 @@ returns-in-Ok-change_band-clause-allowed g c o ds ps k told e early =
 
 pub returns-in-Ok-change_band-clause-waits : goal.returns-in-Ok-change_band-clause-waits
 returns-in-Ok-change_band-clause-waits g c = waits_kept c.append.new.self c.change_band.new.log c.change_band.ensures.log_kept (subst WaitsFrame (sym c.in-Ok.ensures.log) (waits_appended c.args.self.now.log (shown c.args.r.now) c.requires.range))
+
+pub returns-in-Ok-change_band-clause-tail : goal.returns-in-Ok-change_band-clause-tail
+returns-in-Ok-change_band-clause-tail g c = tail_kept c.append.new.self c.change_band.new.log c.change_band.ensures.log_kept ∙ c.in-Ok.ensures.tail
+
+pub returns-in-Ok-change_band-clause-full : goal.returns-in-Ok-change_band-clause-full
+returns-in-Ok-change_band-clause-full g c over = absurd (ok_no_err c.append.result _ _ c.in-Ok.is (c.append.ensures.full over))
+
+pub returns-in-Err-change_band-clause-full : goal.returns-in-Err-change_band-clause-full
+returns-in-Err-change_band-clause-full g c over = absurd (ok_no_err c.append.result _ _ c.in-Ok.is (c.append.ensures.full over))
+
+pub returns-in-Ok-change_band-clause-heeded : goal.returns-in-Ok-change_band-clause-heeded
+returns-in-Ok-change_band-clause-heeded g c = c.in-Ok-change_band.ensures.heeded ∙ c.in-Ok.ensures.heeded
+
+pub returns-in-Ok-change_band-clause-later : goal.returns-in-Ok-change_band-clause-later
+returns-in-Ok-change_band-clause-later g c = le_trans c.append.ensures.later c.change_band.ensures.later
+
+pub returns-in-Err-change_band-clause-later : goal.returns-in-Err-change_band-clause-later
+returns-in-Err-change_band-clause-later g c = le_trans c.append.ensures.later c.change_band.ensures.later
+
+pub returns-in-Ok-change_band-clause-grown : goal.returns-in-Ok-change_band-clause-grown
+returns-in-Ok-change_band-clause-grown g c = record {
+  rising = le_trans c.append.ensures.kept c.change_band.ensures.kept;
+  grown = grown_then c.args.self.now.log c.append.new.self c.change_band.new.log (g.D.Disk.view c.args.self.now.disk) (g.D.Disk.view c.append.new.disk) (g.D.Disk.view c.change_band.new.disk) c.append.ensures.grown c.change_band.ensures.grown c.change_band.ensures.kept;
+}
+
+pub returns-in-Err-change_band-clause-grown : goal.returns-in-Err-change_band-clause-grown
+returns-in-Err-change_band-clause-grown g c = record {
+  rising = le_trans c.append.ensures.kept c.change_band.ensures.kept;
+  grown = grown_then c.args.self.now.log c.append.new.self c.change_band.new.log (g.D.Disk.view c.args.self.now.disk) (g.D.Disk.view c.append.new.disk) (g.D.Disk.view c.change_band.new.disk) c.append.ensures.grown c.change_band.ensures.grown c.change_band.ensures.kept;
+}

@@ -3,9 +3,10 @@ use Rattle.sg_base.specs.Op.{op_of}
 use Rattle.sg_record.specs.Shown.{shown}
 use Rattle.sg_log.specs.Held.{numbered, durable_after, waiting_after}
 use Rattle.sg_ops.specs.Table.{Table, table_of}
-use Rattle.std.proofs.Common.{sym, subst}
+use Rattle.std.proofs.Common.{sym, ◌∙◌, subst, le_trans}
 use Rattle.sg_engine.specs.Calls.{WaitsFrame}
-use Rattle.sg_engine.proofs.Waits.{waits_appended, waits_kept}
+use Rattle.sg_pool.proofs.Counting.{grown_then}
+use Rattle.sg_engine.proofs.Waits.{waits_appended, waits_kept, tail_kept, ok_no_err}
 use Rattle.sg_engine.proofs.Pools.{apart1, backs1, logged1, well1, moments1, page1, page_early, append_moments, bring_failed}
 use Rattle.sg_engine.proofs.engine.Engine.change_page.Goals as goal
 
@@ -116,3 +117,33 @@ returns-in-Ok-change_page-clause-allowed g c o ds ps k told e early =
 
 pub returns-in-Ok-change_page-clause-waits : goal.returns-in-Ok-change_page-clause-waits
 returns-in-Ok-change_page-clause-waits g c = waits_kept c.append.new.self c.change_page.new.log c.change_page.ensures.log_kept (subst WaitsFrame (sym c.in-Ok.ensures.log) (waits_appended c.args.self.now.log (shown c.args.r.now) c.requires.range))
+
+pub returns-in-Ok-change_page-clause-tail : goal.returns-in-Ok-change_page-clause-tail
+returns-in-Ok-change_page-clause-tail g c = tail_kept c.append.new.self c.change_page.new.log c.change_page.ensures.log_kept ∙ c.in-Ok.ensures.tail
+
+pub returns-in-Ok-change_page-clause-full : goal.returns-in-Ok-change_page-clause-full
+returns-in-Ok-change_page-clause-full g c over = absurd (ok_no_err c.append.result _ _ c.in-Ok.is (c.append.ensures.full over))
+
+pub returns-in-Err-change_page-clause-full : goal.returns-in-Err-change_page-clause-full
+returns-in-Err-change_page-clause-full g c over = absurd (ok_no_err c.append.result _ _ c.in-Ok.is (c.append.ensures.full over))
+
+pub returns-in-Ok-change_page-clause-heeded : goal.returns-in-Ok-change_page-clause-heeded
+returns-in-Ok-change_page-clause-heeded g c = c.in-Ok-change_page.ensures.heeded ∙ c.in-Ok.ensures.heeded
+
+pub returns-in-Ok-change_page-clause-later : goal.returns-in-Ok-change_page-clause-later
+returns-in-Ok-change_page-clause-later g c = le_trans c.append.ensures.later c.change_page.ensures.later
+
+pub returns-in-Err-change_page-clause-later : goal.returns-in-Err-change_page-clause-later
+returns-in-Err-change_page-clause-later g c = le_trans c.append.ensures.later c.change_page.ensures.later
+
+pub returns-in-Ok-change_page-clause-grown : goal.returns-in-Ok-change_page-clause-grown
+returns-in-Ok-change_page-clause-grown g c = record {
+  rising = le_trans c.append.ensures.kept c.change_page.ensures.kept;
+  grown = grown_then c.args.self.now.log c.append.new.self c.change_page.new.log (g.D.Disk.view c.args.self.now.disk) (g.D.Disk.view c.append.new.disk) (g.D.Disk.view c.change_page.new.disk) c.append.ensures.grown c.change_page.ensures.grown c.change_page.ensures.kept;
+}
+
+pub returns-in-Err-change_page-clause-grown : goal.returns-in-Err-change_page-clause-grown
+returns-in-Err-change_page-clause-grown g c = record {
+  rising = le_trans c.append.ensures.kept c.change_page.ensures.kept;
+  grown = grown_then c.args.self.now.log c.append.new.self c.change_page.new.log (g.D.Disk.view c.args.self.now.disk) (g.D.Disk.view c.append.new.disk) (g.D.Disk.view c.change_page.new.disk) c.append.ensures.grown c.change_page.ensures.grown c.change_page.ensures.kept;
+}

@@ -1,10 +1,11 @@
-use Rattle.std.proofs.Common.{◌≡◌, ℕ, List, Result, Ok, Err, OnErr, ◌≤◌, ◌<◌, ◌+◌, ◌++◌, length, take, drop, subst, sym, ap, ◌∙◌, arith}
+use Rattle.std.proofs.Common.{◌≡◌, ℕ, List, ◌≤◌, ◌<◌, ◌+◌, ◌++◌, length, take, drop, subst, sym, ap, ◌∙◌, arith}
 use Rattle.sg_disk.specs.Disk.{Image, Leaves, LeavesOnly}
 use Rattle.std.proofs.lemmas.List.{with_items_is}
 use Rattle.sg_disk.proofs.Moments.{weaker}
 use Rattle.sg_log.specs.Frames.{HasRecords, SameElsewhere}
 use Rattle.sg_log.specs.Held.{Tail, Holds, tail_of, IsBeforeOrAfter}
 use Rattle.sg_log.proofs.Holding.{holds_image, no_call_moments, force_nothing, buffer_none, buffer_size, waiting_rest, waiting_frame, force_moment, force_done, force_text, tail_behind, tail_empty}
+use Rattle.sg_log.proofs.Runs.{on_err}
 use Rattle.sg_log.proofs.log.Log.force.Goals as goal
 
 pub returns-then-self-eq0-clause-holds : goal.returns-then-self-eq0-clause-holds
@@ -72,10 +73,6 @@ returns-clause-after g c ds ps told h0 =
 pub returns-clause-elsewhere : goal.returns-clause-elsewhere
 returns-clause-elsewhere g c told =
     subst (λ (t : Tail). SameElsewhere t.area (g.D.Disk.view c.args.disk.now).now (g.D.Disk.view c.write_frame.new.disk).now) c.self.view_is (c.in_ok-write_frame.ensures.elsewhere told)
-
-on_err : {T E P : Type 0} (r : Result T E) → P → OnErr r P
-on_err (Ok x) p = tt
-on_err (Err e) p = p
 
 pub returns-in_err-write_frame-clause-same : goal.returns-in_err-write_frame-clause-same
 returns-in_err-write_frame-clause-same g c =

@@ -1,8 +1,5 @@
-use Rattle.std.proofs.Common.{◌≡◌, ◌<◌, ℕ, Ok, Err, List, [], refl, sym, ap}
-use Rattle.std.specs.Prelude.{All}
+use Rattle.std.proofs.Common.{ℕ, Ok, Err, []}
 use Rattle.std.proofs.lemmas.Result.{err_from_is_err_and}
-use Rattle.sg_ops.specs.Table.{Table}
-use Rattle.sg_redo.specs.declared.place.Place.{Place}
 use Rattle.sg_pool.specs.Pooled.{contents}
 use Rattle.sg_pool.proofs.Bringing.{told_as}
 use Rattle.sg_pool.proofs.RedoRuns.{page_run, nothing_repeated}

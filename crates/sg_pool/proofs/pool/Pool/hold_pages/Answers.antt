@@ -1,6 +1,5 @@
-use Rattle.std.proofs.Common.{◌≡◌, ◌<◌, ◌+◌, ◌-◌, List, [], length, take, drop, refl, sym, ◌∙◌, subst, arith, length-take, length-drop}
+use Rattle.std.proofs.Common.{◌<◌, ◌-◌, [], length, take, drop, refl, ◌∙◌, arith, length-take, length-drop}
 use Rattle.std.proofs.lemmas.Result.{err_from_is_err_and}
-use Rattle.sg_redo.specs.declared.place.Place.{Place}
 use Rattle.sg_pool.proofs.Grouped.{IsGroup, next_border, group_all, through_starts, through_next, through_cut, through_ends}
 use Rattle.sg_pool.proofs.pool.Pool.hold_pages.Goals as goal
 

@@ -1,4 +1,4 @@
-use Rattle.std.proofs.Common.{ℕ, Bool, true, List, length, sym, ◌∙◌, subst, arith}
+use Rattle.std.proofs.Common.{ℕ, Bool, List, length, sym, ◌∙◌, subst}
 use Rattle.sg_pool.specs.Order.{IsOrder}
 use Rattle.sg_pool.proofs.Ordering.{order_pinned}
 use Rattle.sg_pool.proofs.Slots.{frame_some}

@@ -1,4 +1,4 @@
-use Rattle.std.proofs.Common.{◌≡◌, ◌<◌, List, [], length, refl, subst, arith}
+use Rattle.std.proofs.Common.{◌≡◌, List, [], refl, subst}
 use Rattle.sg_ops.specs.Table.{Table, table_of}
 use Rattle.sg_redo.specs.declared.place.Place.{Place}
 use Rattle.sg_pool.specs.Redone.{places_of}

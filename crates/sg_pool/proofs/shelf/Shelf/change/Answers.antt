@@ -1,4 +1,4 @@
-use Rattle.std.proofs.Common.{◌≡◌, ℕ, Some, List, [], length, get_or, set, refl, sym, ◌∙◌, ap, arith}
+use Rattle.std.proofs.Common.{◌≡◌, ℕ, List, [], length, get_or, set, refl, sym, ◌∙◌, ap, arith}
 use Rattle.std.specs.List.{refill, length_refill}
 use Rattle.std.specs.Prelude.{unwrap_or}
 use Rattle.sg_pool.specs.declared.slot.Slot.{Slot}

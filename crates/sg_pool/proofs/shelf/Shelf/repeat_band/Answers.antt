@@ -1,4 +1,4 @@
-use Rattle.std.proofs.Common.{◌<◌, length, ◌∙◌, ap, arith, length-set}
+use Rattle.std.proofs.Common.{length, ◌∙◌, ap, arith, length-set}
 use Rattle.sg_pool.proofs.Changing.{shelf_window}
 use Rattle.sg_pool.proofs.shelf.Shelf.repeat_band.Goals as goal
 

@@ -1,4 +1,4 @@
-use Rattle.std.proofs.Common.{◌≡◌, ◌<◌, ◌+◌, List, [], length, sym, ◌∙◌, ap, subst, arith}
+use Rattle.std.proofs.Common.{◌≡◌, List, sym, ◌∙◌, ap, subst, arith}
 use Rattle.std.specs.Prelude.{All, map, sum_by}
 use Rattle.sg_ops.specs.Table.{Table, table_of}
 use Rattle.sg_redo.specs.declared.unit.Unit as code

@@ -1,4 +1,4 @@
-use Rattle.std.proofs.Common.{◌≡◌, ℕ, Some, get_or, set, ◌∙◌, ap, length-set}
+use Rattle.std.proofs.Common.{◌≡◌, Some, get_or, set, ◌∙◌, ap, length-set}
 use Rattle.std.specs.Prelude.{unwrap_or}
 use Rattle.sg_pool.specs.declared.slot.Slot.{Slot}
 use Rattle.sg_pool.specs.Held.{no_slot}
