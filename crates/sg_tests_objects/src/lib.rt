@@ -1,12 +1,8 @@
-//! Tests of what the plain store holds in memory: its objects, the live transactions, and what they hold.
+//! Tests of what a store holds in memory of its transactions: those that are live, and what they hold.
 //! Each module has those of one crate.
 #![tactic(auto)]
 
 #[cfg(test)]
 mod locks;
 #[cfg(test)]
-mod plain;
-#[cfg(test)]
 mod txns;
-#[cfg(test)]
-mod undo;

@@ -9,22 +9,22 @@ use std::test::Fail;
 
 // What an act came to.
 #[derive(Clone, Copy, PartialEq, Eq)]
-enum Came {
+pub(crate) enum Came {
     Reply(Reply),
     Reason(Reason),
     Fault,
 }
 
-const DONE: Came = Came::Reply(Reply::Done);
+pub(crate) const DONE: Came = Came::Reply(Reply::Done);
 
 const PUSHED: Came = Came::Reply(Reply::Number(0));
 
 // The front of a buffer into which nothing was put.
-const NONE: [u8; 8] = [0; 8];
+pub(crate) const NONE: [u8; 8] = [0; 8];
 
-const ONE: &[u8] = b"\x01\0\0\0\0\0\0\0";
+pub(crate) const ONE: &[u8] = b"\x01\0\0\0\0\0\0\0";
 
-const HIGHEST: &[u8] = b"\xff\xff\xff\xff\xff\xff\xff\xff";
+pub(crate) const HIGHEST: &[u8] = b"\xff\xff\xff\xff\xff\xff\xff\xff";
 
 // A value of 1,024 letters.
 const LETTERS: &[u8] = &[b'v'; 1_024];
@@ -58,15 +58,15 @@ fn undone(said: Result<(), SpaceFault>) -> Came {
 
 // Objects in a space that tells nothing, so that a call asks for nothing, and four notes.
 #[derive(Drop)]
-struct Trial {
-    space: Guarded,
-    ops: Ops,
+pub(crate) struct Trial {
+    pub(crate) space: Guarded,
+    pub(crate) ops: Ops,
     notes: [UndoNote; 4],
 }
 
 impl Trial {
     // 64 pages, of which the catalogue has one, and 8 bands, of which the map has two.
-    fn new(alloc: Global) -> Result<Trial, Fail> {
+    pub(crate) fn new(alloc: Global) -> Result<Trial, Fail> {
         let space = Guarded::new(MemSpace::new(alloc, 64, 8)?);
         let ops = Ops::shipped(alloc)?;
         let notes = [
@@ -78,7 +78,7 @@ impl Trial {
         Ok(Trial { space, ops, notes })
     }
 
-    fn does(&mut self, place: usize, op: &Op<'_>, into: &mut [u8; 8192]) -> Came {
+    pub(crate) fn does(&mut self, place: usize, op: &Op<'_>, into: &mut [u8; 8192]) -> Came {
         let mut note = UndoNote::new();
         let result = perform(&mut self.space, &self.ops, TxnId(7), op, into, &mut note);
         if let Some(kept) = self.notes.get_mut(place) {

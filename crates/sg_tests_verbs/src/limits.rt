@@ -1,34 +1,18 @@
+// Each verb on the objects of a space at the limits that its definition has, with each reason for which it is refused.
+use crate::rows::{Came, DONE, HIGHEST, NONE, ONE, Trial};
 use Says::*;
 use sg_base::Name;
 use sg_model::{Op, Reason, Reply};
-use sg_ops::Ops;
-use sg_plain::Objects;
+use sg_objects::{ObjFault, needs_of};
 use std::alloc::Global;
 use std::test::Fail;
-
-const HIGHEST: &[u8] = b"\xff\xff\xff\xff\xff\xff\xff\xff";
-
-pub(crate) const ONE: &[u8] = b"\x01\0\0\0\0\0\0\0";
 
 // The most bytes of a blob.
 const MOST: u64 = 16_384_000;
 
-/// What an operation came to.
-#[derive(Clone, Copy, PartialEq, Eq)]
-pub(crate) enum Came {
-    Reply(Reply),
-    Reason(Reason),
-    Memory,
-}
-
-pub(crate) const DONE: Came = Came::Reply(Reply::Done);
-
-// The front of a buffer into which nothing was put.
-pub(crate) const NONE: [u8; 8] = [0; 8];
-
 // What is to be done to an object, without its name.
 #[derive(Clone, Copy)]
-pub(crate) enum Says {
+enum Says {
     MakeArray(u64),
     MakeTable,
     MakeBlob,
@@ -51,7 +35,7 @@ pub(crate) enum Says {
 // One operation, what it comes to, and the first bytes of the buffer after it.
 type Row = (Says, Came, [u8; 8]);
 
-pub(crate) fn named(name: Name, says: Says) -> Op<'static> {
+fn named(name: Name, says: Says) -> Op<'static> {
     match says {
         MakeArray(size) => Op::MakeArray { name, size },
         MakeTable => Op::MakeTable { name },
@@ -85,52 +69,39 @@ pub(crate) fn named(name: Name, says: Says) -> Op<'static> {
 }
 
 // What an operation comes to, with the first bytes of the buffer.
-fn outcome(objects: &mut Objects, alloc: Global, ops: &Ops, op: &Op<'_>) -> (Came, [u8; 8]) {
+fn outcome(trial: &mut Trial, op: &Op<'_>) -> (Came, [u8; 8]) {
     let mut into = [0u8; 8192];
-    let came = match objects.apply(alloc, ops, op, &mut into) {
-        Ok(Ok(reply)) => Came::Reply(reply),
-        Ok(Err(reason)) => Came::Reason(reason),
-        Err(_) => Came::Memory,
-    };
+    let came = trial.does(0, op, &mut into);
     let mut first = [0u8; 8];
     first.copy_from_slice(&into[..8]);
     (came, first)
 }
 
-// Whether an operation would be refused, as `refusal` says.
-fn refused(objects: &Objects, ops: &Ops, op: &Op<'_>) -> Option<Reason> {
-    objects.refusal(ops, op)
+// Why an operation would be refused, as what it needs is asked.
+fn refusal(trial: &mut Trial, op: &Op<'_>) -> Option<Reason> {
+    match needs_of(&mut trial.space, &trial.ops, op) {
+        Err(ObjFault::Model(reason)) => Some(reason),
+        _ => None,
+    }
 }
 
-// Objects, one of which has this name. Each table below stands in a function of its own, which promises nothing, since
+// Objects of a space, one of which has this name. Each table below stands in a function of its own, which promises nothing, since
 // a function that names a table writes all of it, and its proof carries what it has written.
 #[derive(Drop)]
-struct Trial {
-    alloc: Global,
-    ops: Ops,
+struct One {
     name: Name,
-    objects: Objects,
+    trial: Trial,
 }
 
-impl Trial {
-    fn new(alloc: Global, name: &[u8]) -> Result<Trial, Fail> {
+impl One {
+    fn new(alloc: Global, name: &[u8]) -> Result<One, Fail> {
         let name = Name::new(name).ok_or("a name")?;
-        let ops = Ops::shipped(alloc)?;
-        Ok(Trial {
-            alloc,
-            ops,
-            name,
-            objects: Objects::empty(alloc),
-        })
+        let trial = Trial::new(alloc)?;
+        Ok(One { name, trial })
     }
 
     fn outcome(&mut self, says: Says) -> (Came, [u8; 8]) {
-        outcome(
-            &mut self.objects,
-            self.alloc,
-            &self.ops,
-            &named(self.name, says),
-        )
+        outcome(&mut self.trial, &named(self.name, says))
     }
 
     // The first row that came to something else, the rows done one after another.
@@ -144,8 +115,8 @@ impl Trial {
         None
     }
 
-    fn refusal(&self, says: Says) -> Option<Reason> {
-        refused(&self.objects, &self.ops, &named(self.name, says))
+    fn refusal(&mut self, says: Says) -> Option<Reason> {
+        refusal(&mut self.trial, &named(self.name, says))
     }
 }
 
@@ -161,8 +132,8 @@ const ARRAY_MADE: [Row; 8] = [
     (Push(b"short"), Came::Reason(Reason::Declined), NONE),
 ];
 
-fn array_made(trial: &mut Trial) -> Option<usize> {
-    trial.first_wrong(&ARRAY_MADE)
+fn array_made(one: &mut One) -> Option<usize> {
+    one.first_wrong(&ARRAY_MADE)
 }
 
 // Record operations, of which some are refused.
@@ -181,8 +152,8 @@ const ARRAY_CHANGED: [Row; 8] = [
     ),
 ];
 
-fn array_changed(trial: &mut Trial) -> Option<usize> {
-    trial.first_wrong(&ARRAY_CHANGED)
+fn array_changed(one: &mut One) -> Option<usize> {
+    one.first_wrong(&ARRAY_CHANGED)
 }
 
 // Places that are there, and some that are not.
@@ -195,8 +166,8 @@ const ARRAY_SET: [Row; 6] = [
     (Apply(0, 3, &[1]), DONE, NONE),
 ];
 
-fn array_set(trial: &mut Trial) -> Option<usize> {
-    trial.first_wrong(&ARRAY_SET)
+fn array_set(one: &mut One) -> Option<usize> {
+    one.first_wrong(&ARRAY_SET)
 }
 
 // What it answers until it is gone.
@@ -210,20 +181,20 @@ const ARRAY_GONE: [Row; 7] = [
     (Discard, Came::Reason(Reason::NoObject), NONE),
 ];
 
-fn array_gone(trial: &mut Trial) -> Option<usize> {
-    trial.first_wrong(&ARRAY_GONE)
+fn array_gone(one: &mut One) -> Option<usize> {
+    one.first_wrong(&ARRAY_GONE)
 }
 
 // The first row of each table, the tables one after another, that came to something else.
 fn wrong_array(alloc: Global) -> Result<[Option<usize>; 4], Fail> {
-    let mut trial = Trial::new(alloc, b"n")?;
+    let mut one = One::new(alloc, b"n")?;
     let wrong = [
-        array_made(&mut trial),
-        array_changed(&mut trial),
-        array_set(&mut trial),
-        array_gone(&mut trial),
+        array_made(&mut one),
+        array_changed(&mut one),
+        array_set(&mut one),
+        array_gone(&mut one),
     ];
-    drop(trial);
+    drop(one);
     Ok(wrong)
 }
 
@@ -245,8 +216,8 @@ const TABLE_FILLED: [Row; 8] = [
     (Find(b"k"), Came::Reply(Reply::Bytes(0)), NONE),
 ];
 
-fn table_filled(trial: &mut Trial) -> Option<usize> {
-    trial.first_wrong(&TABLE_FILLED)
+fn table_filled(one: &mut One) -> Option<usize> {
+    one.first_wrong(&TABLE_FILLED)
 }
 
 // Keys of other lengths, and keys that are taken away.
@@ -263,15 +234,15 @@ const TABLE_EMPTIED: [Row; 10] = [
     (Push(b"v"), Came::Reason(Reason::WrongKind), NONE),
 ];
 
-fn table_emptied(trial: &mut Trial) -> Option<usize> {
-    trial.first_wrong(&TABLE_EMPTIED)
+fn table_emptied(one: &mut One) -> Option<usize> {
+    one.first_wrong(&TABLE_EMPTIED)
 }
 
 // The first row of each table, the tables one after another, that came to something else.
 fn wrong_table(alloc: Global) -> Result<[Option<usize>; 2], Fail> {
-    let mut trial = Trial::new(alloc, b"t")?;
-    let wrong = [table_filled(&mut trial), table_emptied(&mut trial)];
-    drop(trial);
+    let mut one = One::new(alloc, b"t")?;
+    let wrong = [table_filled(&mut one), table_emptied(&mut one)];
+    drop(one);
     Ok(wrong)
 }
 
@@ -294,8 +265,8 @@ const BLOB_WRITTEN: [Row; 9] = [
     (Paint(1, 2, 1, b"Z"), DONE, NONE),
 ];
 
-fn blob_written(trial: &mut Trial) -> Option<usize> {
-    trial.first_wrong(&BLOB_WRITTEN)
+fn blob_written(one: &mut One) -> Option<usize> {
+    one.first_wrong(&BLOB_WRITTEN)
 }
 
 // Bytes at the end and past it.
@@ -315,8 +286,8 @@ const BLOB_READ: [Row; 9] = [
     (Write(MOST, b"x"), Came::Reason(Reason::TooLong), NONE),
 ];
 
-fn blob_read(trial: &mut Trial) -> Option<usize> {
-    trial.first_wrong(&BLOB_READ)
+fn blob_read(one: &mut One) -> Option<usize> {
+    one.first_wrong(&BLOB_READ)
 }
 
 // What is too long or names no operation.
@@ -344,19 +315,19 @@ const BLOB_REFUSED: [Row; 9] = [
     (Apply(0, 1, b""), Came::Reason(Reason::WrongKind), NONE),
 ];
 
-fn blob_refused(trial: &mut Trial) -> Option<usize> {
-    trial.first_wrong(&BLOB_REFUSED)
+fn blob_refused(one: &mut One) -> Option<usize> {
+    one.first_wrong(&BLOB_REFUSED)
 }
 
 // The first row of each table, the tables one after another, that came to something else.
 fn wrong_blob(alloc: Global) -> Result<[Option<usize>; 3], Fail> {
-    let mut trial = Trial::new(alloc, b"b")?;
+    let mut one = One::new(alloc, b"b")?;
     let wrong = [
-        blob_written(&mut trial),
-        blob_read(&mut trial),
-        blob_refused(&mut trial),
+        blob_written(&mut one),
+        blob_read(&mut one),
+        blob_refused(&mut one),
     ];
-    drop(trial);
+    drop(one);
     Ok(wrong)
 }
 
@@ -370,17 +341,17 @@ fn a_blob_keeps_its_bytes(rt: HostRuntime) -> Result<(), Fail> {
 // why its length would not be said.
 type Known = (Option<Reason>, Option<Reason>, bool, Option<Reason>);
 
-fn known_before(trial: &mut Trial) -> Known {
-    let length = trial.refusal(Len);
-    let blob = trial.refusal(MakeBlob);
-    let (made, _) = trial.outcome(MakeBlob);
-    (length, blob, made == DONE, trial.refusal(Len))
+fn known_before(one: &mut One) -> Known {
+    let length = one.refusal(Len);
+    let blob = one.refusal(MakeBlob);
+    let (made, _) = one.outcome(MakeBlob);
+    (length, blob, made == DONE, one.refusal(Len))
 }
 
 fn known_of(alloc: Global) -> Result<Known, Fail> {
-    let mut trial = Trial::new(alloc, b"b")?;
-    let known = known_before(&mut trial);
-    drop(trial);
+    let mut one = One::new(alloc, b"b")?;
+    let known = known_before(&mut one);
+    drop(one);
     Ok(known)
 }
 
