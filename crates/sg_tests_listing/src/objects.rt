@@ -1,49 +1,71 @@
-use sg_base::{MemSink, Name};
+use sg_base::{MemSink, Name, TxnId};
+use sg_lines::{Adder, Summary};
+use sg_listing::{TellFault, tell, write_text};
 use sg_model::Op;
+use sg_objects::perform;
 use sg_ops::Ops;
-use sg_plain::{Objects, Summary, TextFault};
+use sg_space::{Guarded, MemSpace, UndoNote};
 use std::alloc::Global;
 use std::test::Fail;
 
-// Objects that some operations leave, and whether each of these was done.
+// Objects that some operations leave in a space that tells nothing, so that a call asks for nothing, and whether each of these was done.
 #[derive(Drop)]
 struct Made {
     alloc: Global,
     ops: Ops,
-    objects: Objects,
+    space: Guarded,
     all_done: bool,
 }
 
 impl Made {
+    // 64 pages, of which the catalogue has one, and 8 bands, of which the map has two.
     fn new(alloc: Global) -> Result<Made, Fail> {
+        let space = Guarded::new(MemSpace::new(alloc, 64, 8)?);
         let ops = Ops::shipped(alloc)?;
         Ok(Made {
             alloc,
             ops,
-            objects: Objects::empty(alloc),
+            space,
             all_done: true,
         })
     }
 
     fn does(&mut self, op: &Op<'_>) {
         let mut into = [0u8; 8192];
-        let came = self.objects.apply(self.alloc, &self.ops, op, &mut into);
-        self.all_done &= matches!(came, Ok(Ok(_)));
+        let mut note = UndoNote::new();
+        let came = perform(
+            &mut self.space,
+            &self.ops,
+            TxnId(7),
+            op,
+            &mut into,
+            &mut note,
+        );
+        self.all_done &= came.is_ok();
+    }
+
+    // Whether this is the text of the objects.
+    fn writes(&mut self, text: &[u8]) -> bool {
+        let mut sink = MemSink::new(self.alloc, None);
+        write_text(&mut self.space, self.alloc, &mut sink).is_ok() && sink.text() == text
+    }
+
+    // Whether this is what they come to.
+    fn adds_up(&mut self, summary: Summary) -> bool {
+        let mut adder = Adder::new();
+        tell(&mut self.space, self.alloc, &mut adder).is_ok() && adder.summary == summary
     }
 
     // Whether all was done, and the text and the summary are these.
-    fn reads(&self, text: &[u8], summary: Summary) -> bool {
-        let mut sink = MemSink::new(self.alloc, None);
-        self.all_done
-            && self.objects.write_text(&mut sink).is_ok()
-            && sink.text() == text
-            && self.objects.summary() == summary
+    fn reads(&mut self, text: &[u8], summary: Summary) -> bool {
+        self.all_done && self.writes(text) && self.adds_up(summary)
     }
 
-    // Whether a sink whose nth call fails has this text then, and the objects say so.
-    fn is_cut(&self, nth: u64, text: &[u8]) -> bool {
+    // Whether a sink whose nth call fails has this text then, and the listing says so.
+    fn is_cut(&mut self, nth: u64, text: &[u8]) -> bool {
         let mut sink = MemSink::new(self.alloc, Some(nth));
-        self.objects.write_text(&mut sink) == Err(TextFault::Sink) && sink.text() == text
+        write_text(&mut self.space, self.alloc, &mut sink) == Err(TellFault::Listener)
+            && sink.text() == text
     }
 }
 
@@ -53,7 +75,7 @@ fn name_of(text: &[u8]) -> Result<Name, Fail> {
 
 #[test]
 fn no_objects_are_counted(rt: HostRuntime) -> Result<(), Fail> {
-    let made = Made::new(rt.alloc())?;
+    let mut made = Made::new(rt.alloc())?;
     let none = Summary {
         objects: 0,
         items: 0,
@@ -130,7 +152,7 @@ const OF_THREE: &[u8] =
 
 #[test]
 fn three_objects_are_written_by_name(rt: HostRuntime) -> Result<(), Fail> {
-    let made = three(rt.alloc())?;
+    let mut made = three(rt.alloc())?;
     let summary = Summary {
         objects: 3,
         items: 1,
@@ -145,7 +167,7 @@ fn three_objects_are_written_by_name(rt: HostRuntime) -> Result<(), Fail> {
 // The text is handed over in nine calls, of a line each.
 #[test]
 fn a_sink_that_fails_cuts_the_text(rt: HostRuntime) -> Result<(), Fail> {
-    let made = three(rt.alloc())?;
+    let mut made = three(rt.alloc())?;
     assert!(rt; made.is_cut(1, b""));
     assert!(rt; made.is_cut(2, b"array a 1 1\n"));
     assert!(rt; made.is_cut(4, b"array a 1 1\n 0 x:00\nblob b 5\n"));
