@@ -13,7 +13,7 @@ fi
 folder="$(mktemp -d)"
 trap 'rm -rf "$folder"' EXIT
 mkdir -p "$folder/crates/objects_bench/src"
-libraries='base bits ops serial record text slotted alloc step space action recovery blob array catalog linear bucket hash model reading contents before reach names bands chains once tables walk objects words plain'
+libraries='base bits ops serial record slotted alloc step space action recovery blob array catalog linear bucket hash model reading contents before reach names bands chains once tables walk objects plain'
 for name in $libraries; do
     cp -R "$top/crates/sg_$name" "$folder/crates/"
 done

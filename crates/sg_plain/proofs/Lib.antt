@@ -2,12 +2,5 @@ pub mod Found
 pub mod Chunks
 pub mod Arrays
 pub mod Steps
-pub mod Sorted
-pub mod Standing
-pub mod Taken
-pub mod Undoing
 pub mod Noting
-pub mod Ready
-pub mod Pasts
-pub mod Holding
-pub mod Texts
+pub mod Taken

@@ -1,90 +1,63 @@
--- What is taken back of tables.
-use Rattle.std.proofs.Common.{◌≡◌, ℕ, ◌≤◌, List, [], ◌∷◌, ◌++◌, length, map, Option, Result, Ok, Err, OnOk, OnErr, refl, sym, ap, ◌∙◌, subst}
-use Rattle.std.specs.List.{AllByRecursion}
-use Rattle.sg_model.specs.Objects.{Object}
-use Rattle.sg_model.specs.Undo.{Note, undo, undo_each}
-use Rattle.sg_model.specs.Undo.Note.{Nothing, WasMade, WasDropped, WasPushed, WasPopped, WasSet, WasPut, HadValue, HadBytes}
-use Rattle.sg_plain.specs.declared.undo.Undo as code_undo
-use Rattle.sg_plain.specs.Undone.{shown_undo, undo_listed}
-use Rattle.sg_plain.specs.Places.{Places, HasPlace, there, with_place}
-use Rattle.sg_plain.specs.Tables.{TakesBack, IsReadyTable}
-use Rattle.sg_plain.proofs.Standing.{there_with_place, place_stays, place_made}
+-- What notes take back, the last one first.
+use Rattle.std.proofs.Common.{◌≡◌, ℕ, List, [], ◌∷◌, ◌++◌, map, Option, Some, None, Result, Ok, Err, IsOk, OnOk, refl, sym, ap, ◌∙◌}
+use Rattle.std.specs.FinMap.{get, insert}
+use Rattle.sg_ops.specs.Table.{Table as Operations}
+use Rattle.sg_model.specs.Objects.{Object, Objects}
+use Rattle.sg_model.specs.Verb.{Verb, Outcome}
+use Rattle.sg_model.specs.Verb.Op.{On}
+use Rattle.sg_model.specs.Verb.Reply.{Done}
+use Rattle.sg_model.specs.Step.{on, step, put_at}
+use Rattle.sg_model.specs.Undo.{Note, OpNote, undo, undo_on, undo_all_on, note_object, note_of_op, if_replied}
+use Rattle.sg_model.proofs.Noted.{get_unstep}
+use Rattle.sg_model.proofs.Refused.{put_same}
+use Rattle.sg_plain.specs.declared.undo.Noted as code_noted
+use Rattle.sg_plain.specs.Undone.{shown_noted}
 
 -- the last note is taken back first
-pub undo_pushed : (notes : List Note) (note : Note) (object : Option Object) → undo_each (notes ++ note ∷ []) object ≡ undo_each notes (undo note object)
-undo_pushed [] note object = refl
-undo_pushed (n ∷ notes) note object = ap (undo n) (undo_pushed notes note object)
+undo_pushed : (name : List ℕ) (notes : List OpNote) (note : OpNote) (object : Option Object) → undo_all_on name (notes ++ note ∷ []) object ≡ undo_all_on name notes (undo_on name note object)
+undo_pushed name [] note object = refl
+undo_pushed name (n ∷ notes) note object = ap (undo_on name n) (undo_pushed name notes note object)
 
-pub shown_pushed : (undos : List code_undo.Undo) (u : code_undo.Undo) → map shown_undo (undos ++ u ∷ []) ≡ map shown_undo undos ++ shown_undo u ∷ []
-shown_pushed [] u = refl
-shown_pushed (v ∷ undos) u = ap (λ (ns : List Note). shown_undo v ∷ ns) (shown_pushed undos u)
+shown_pushed : (notes : List code_noted.Noted) (n : code_noted.Noted) → map shown_noted (notes ++ n ∷ []) ≡ map shown_noted notes ++ shown_noted n ∷ []
+shown_pushed [] n = refl
+shown_pushed (m ∷ notes) n = ap (λ (ns : List OpNote). shown_noted m ∷ ns) (shown_pushed notes n)
 
-pub undo_last : (undos : List code_undo.Undo) (u : code_undo.Undo) (object : Option Object) → undo_listed (undos ++ u ∷ []) object ≡ undo_listed undos (undo (shown_undo u) object)
-undo_last undos u object = ap (λ (ns : List Note). undo_each ns object) (shown_pushed undos u) ∙ undo_pushed (map shown_undo undos) (shown_undo u) object
+pub undo_last : (name : List ℕ) (all notes : List code_noted.Noted) (n : code_noted.Noted) (object : Option Object) → all ≡ notes ++ n ∷ [] → undo_all_on name (map shown_noted all) object ≡ undo_all_on name (map shown_noted notes) (undo_on name (shown_noted n) object)
+undo_last name all notes n object e =
+    ap (λ (ns : List OpNote). undo_all_on name ns object) (ap (map shown_noted) e ∙ shown_pushed notes n) ∙ undo_pushed name (map shown_noted notes) (shown_noted n) object
 
-module _ {X : Type 0} (P : X → Type 0) where
-  pub all_pushed : (xs : List X) (x : X) → AllByRecursion P xs → P x → AllByRecursion P (xs ++ x ∷ [])
-  all_pushed [] x h k = (k, tt)
-  all_pushed (y ∷ xs) x h k = (h.0, all_pushed xs x h.1 k)
+-- what stands under a name once one note is taken back
+pub taken_back : (s m : Objects) (n : code_noted.Noted) (name : List ℕ) → m ≡ put_at s n.name (undo (shown_noted n).1 (get s n.name)) → get m name ≡ undo_on name (shown_noted n) (get s name)
+taken_back s m n name e = ap (λ (x : Objects). get x name) e ∙ get_unstep s (Ok Done, shown_noted n) name
 
-  pub all_but_last : (xs : List X) (x : X) → AllByRecursion P (xs ++ x ∷ []) → AllByRecursion P xs
-  all_but_last [] x h = tt
-  all_but_last (y ∷ xs) x h = (h.0, all_but_last xs x h.1)
+-- what is noted of an operation that isn't refused
 
-  pub the_last : (xs : List X) (x : X) → AllByRecursion P (xs ++ x ∷ []) → P x
-  the_last [] x h = h.0
-  the_last (y ∷ xs) x h = the_last xs x h.1
+replied_note : (r : Outcome) (note : Note) → IsOk r → note ≡ if_replied r note
+replied_note (Ok x) note h = refl
+replied_note (Err e) note h = absurd (cc)
 
--- a table that keeps its places stays ready
-takes_kept : (m n : Places (List ℕ)) → ((key : List ℕ) → HasPlace m key → HasPlace n key) → (note : Note) → TakesBack m note → TakesBack n note
-takes_kept m n kept Nothing h = absurd h
-takes_kept m n kept WasMade h = absurd h
-takes_kept m n kept (WasDropped object) h = absurd h
-takes_kept m n kept WasPushed h = absurd h
-takes_kept m n kept (WasPopped item) h = absurd h
-takes_kept m n kept (WasSet index item) h = absurd h
-takes_kept m n kept (WasPut key) h = kept key h
-takes_kept m n kept (HadValue key value) h = (kept key h.0, h.1)
-takes_kept m n kept (HadBytes at bytes long) h = absurd h
+pub accepted_note : (t : Operations) (s : Objects) (n : List ℕ) (verb : Verb) (note : Note) → IsOk (step t s (On n verb)).0 → note ≡ note_object verb (get s n) → (n, note) ≡ note_of_op t s (On n verb)
+unfolding step
+accepted_note t s n verb note h e =
+    let pair : Note → OpNote = λ k. (n, k) in
+    ap pair (e ∙ replied_note (on t verb (get s n)).0 (note_object verb (get s n)) h)
 
-pub ready_kept : (m n : Places (List ℕ)) → ((key : List ℕ) → HasPlace m key → HasPlace n key) → (notes : List Note) → IsReadyTable notes m → IsReadyTable notes n
-ready_kept m n kept [] h = tt
-ready_kept m n kept (note ∷ notes) h = (takes_kept m n kept note h.0, ready_kept m n kept notes h.1)
+pub accepted_on : (t : Operations) (s : Objects) (n : List ℕ) (verb : Verb) → IsOk (step t s (On n verb)).0 → IsOk (on t verb (get s n)).0
+unfolding step
+accepted_on t s n verb h = h
 
--- one more note that can be taken back
-pub ready_more : (m n : Places (List ℕ)) (undos more : List code_undo.Undo) (u : code_undo.Undo) → more ≡ undos ++ u ∷ [] → ((key : List ℕ) → HasPlace m key → HasPlace n key) → IsReadyTable (map shown_undo undos) m → TakesBack n (shown_undo u) → IsReadyTable (map shown_undo more) n
-ready_more m n undos more u e kept h k =
-    subst (λ (us : List code_undo.Undo). IsReadyTable (map shown_undo us) n) (sym e)
-    (subst (λ (ns : List Note). IsReadyTable ns n) (sym (shown_pushed undos u)) (all_pushed (TakesBack n) (map shown_undo undos) (shown_undo u) (ready_kept m n kept (map shown_undo undos) h) k))
+-- one more note
+pub one_noted : (all notes start : List code_noted.Noted) (n : code_noted.Noted) (pair : OpNote) → all ≡ notes ++ n ∷ [] → notes ≡ start → shown_noted n ≡ pair
+    → (name : List ℕ) (object : Option Object) → undo_all_on name (map shown_noted all) object ≡ undo_all_on name (map shown_noted start) (undo_on name pair object)
+one_noted all notes start n pair e same is name object =
+    undo_last name all notes n object e
+    ∙ (ap (λ (ns : List code_noted.Noted). undo_all_on name (map shown_noted ns) (undo_on name (shown_noted n) object)) same ∙ ap (λ (k : OpNote). undo_all_on name (map shown_noted start) (undo_on name k object)) is)
 
--- the notes without the last one, and that one
-pub ready_front : (m : Places (List ℕ)) (all undos : List code_undo.Undo) (u : code_undo.Undo) → all ≡ undos ++ u ∷ [] → IsReadyTable (map shown_undo all) m → IsReadyTable (map shown_undo undos) m
-ready_front m all undos u e h =
-    all_but_last (TakesBack m) (map shown_undo undos) (shown_undo u) (subst (λ (ns : List Note). IsReadyTable ns m) (ap (λ (us : List code_undo.Undo). map shown_undo us) e ∙ shown_pushed undos u) h)
+-- what a note that is taken back leaves among all objects
 
-pub ready_last : (m : Places (List ℕ)) (all undos : List code_undo.Undo) (u : code_undo.Undo) → all ≡ undos ++ u ∷ [] → IsReadyTable (map shown_undo all) m → TakesBack m (shown_undo u)
-ready_last m all undos u e h =
-    the_last (TakesBack m) (map shown_undo undos) (shown_undo u) (subst (λ (ns : List Note). IsReadyTable ns m) (ap (λ (us : List code_undo.Undo). map shown_undo us) e ∙ shown_pushed undos u) h)
+pub none_undone : (s m : Objects) (n : List ℕ) (note : Note) → get s n ≡ None → undo note None ≡ None → m ≡ s → m ≡ put_at s n (undo note (get s n))
+none_undone s m n note none stays same = same ∙ sym (ap (put_at s n) (ap (undo note) none ∙ (stays ∙ sym none)) ∙ put_same s n)
 
--- what is left to be undone, once the last note is
-pub one_undone : (all undos : List code_undo.Undo) (u : code_undo.Undo) (old new start : Option Object) (first : List code_undo.Undo) → all ≡ undos ++ u ∷ [] → new ≡ undo (shown_undo u) old → undo_listed all old ≡ undo_listed first start → undo_listed undos new ≡ undo_listed first start
-one_undone all undos u old new start first e is h =
-    ap (undo_listed undos) is ∙ (sym (undo_last undos u old) ∙ (ap (λ (us : List code_undo.Undo). undo_listed us old) (sym e) ∙ h))
-
--- what giving a key a place leaves
-module _ {A E : Type 0} (m n : Places (List ℕ)) (k : List ℕ) where
-  pub placed_same : (r : Result A E) → OnOk r (n ≡ with_place m k) → OnErr r (n ≡ m) → there n ≡ there m
-  placed_same (Ok x) h e = ap there h ∙ there_with_place m k
-  placed_same (Err x) h e = ap there e
-
-  pub placed_kept : (r : Result A E) → OnOk r (n ≡ with_place m k) → OnErr r (n ≡ m) → (key : List ℕ) → HasPlace m key → HasPlace n key
-  placed_kept (Ok x) h e key is = subst (λ (p : Places (List ℕ)). HasPlace p key) (sym h) (place_stays m k key is)
-  placed_kept (Err x) h e key is = subst (λ (p : Places (List ℕ)). HasPlace p key) (sym e) is
-
-  pub placed_put : (r : Result A E) → OnOk r (n ≡ with_place m k) → OnOk r (TakesBack n (WasPut k))
-  placed_put (Ok x) h = subst (λ (p : Places (List ℕ)). HasPlace p k) (sym h) (place_made m k)
-  placed_put (Err x) h = tt
-
-  pub placed_value : (value : List ℕ) → length value ≤ 1024 → (r : Result A E) → OnOk r (n ≡ with_place m k) → OnOk r (TakesBack n (HadValue k value))
-  placed_value value short (Ok x) h = (subst (λ (p : Places (List ℕ)). HasPlace p k) (sym h) (place_made m k), short)
-  placed_value value short (Err x) h = tt
+pub there_undone : {A E : Type 0} (s m : Objects) (n : List ℕ) (note : Note) (o p : Object) (result : Result A E) → get s n ≡ Some o → m ≡ insert s n p → OnOk result (Some p ≡ undo note (Some o)) → OnOk result (m ≡ put_at s n (undo note (get s n)))
+there_undone s m n note o p (Ok x) there put h = put ∙ ap (put_at s n) (h ∙ ap (undo note) (sym there))
+there_undone s m n note o p (Err e) there put h = tt

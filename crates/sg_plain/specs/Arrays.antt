@@ -2,16 +2,11 @@
 use Rattle.std.specs.Prelude.{◌≡◌, ◌≤◌, ◌*◌, length}
 use Rattle.std.specs.Simd.{first_chunks}
 use Rattle.sg_plain.specs.declared.array.Array.TheInside.{Inside}
-use Rattle.std.specs.Vec.{vec_capacity}
 use Rattle.sg_model.specs.Objects.{Row}
-use Rattle.sg_plain.specs.Rooms.{HeldRow}
 
 -- its items stand one behind another
 abbrev pub row_of : Inside → Row
 row_of a = record { size = a.size; items = first_chunks a.size a.count a.bytes.items }
-
-abbrev pub held_row : Inside → HeldRow
-held_row a = record { row = row_of a; room = vec_capacity a.bytes }
 
 -- the bytes are those of so many items of the item size, which is at most 256
 pub record IsRow (a : Inside) : Type 0 where

@@ -1,11 +1,6 @@
-pub mod Rooms
-pub mod Shown
 pub mod Arrays
-pub mod Places
 pub mod Tables
+pub mod Shown
 pub mod Replies
 pub mod Undone
-pub mod Changed
-pub mod Ready
-pub mod Back
-pub mod Hand
+pub mod Whole

@@ -1,9 +1,6 @@
 ghost use Rattle.std.specs.Prelude.{◌≡◌, ◌<◌, ◌≤◌, ◌*◌, [], ◌∷◌, ◌++◌, length, take, is_some, IfSome, IfOk, OnOk, OnErr, IsOk, IsTrue, Ok, Err, Some, slice_get, slice_set, slice_index_or, option_copied, map};
 ghost use Rattle.std.specs.Simd.{first_chunks};
-ghost use Rattle.std.specs.List.{All, sum_by};
-ghost use Rattle.std.specs.Option.{OnSome};
 ghost use Rattle.sg_ops.specs.Table.{table_of, record_at, accepts_of, after_of};
-ghost use Rattle.sg_plain.specs.Ready.{IsOfRow, items_back};
 ghost use Rattle.sg_plain.specs.Undone.{shown_undo};
 ghost use Rattle.sg_model.specs.Objects.Object.{Array as as_object};
 ghost use Rattle.sg_model.specs.SaidReplies.{said_reply};
@@ -28,8 +25,7 @@ const MOST_ITEMS: usize = 1048576;
 /// The most bytes of an operation's argument.
 pub const MOST_ARG_BYTES: usize = 256;
 
-/// Items of one size of at most 256 bytes, which contracts see as the size and the list of
-/// items, with how many bytes of items have memory.
+/// Items of one size of at most 256 bytes, which contracts see as the size and the list of items.
 #[derive(Drop)]
 pub struct Array {
     size: usize,
@@ -40,13 +36,13 @@ pub struct Array {
 }
 
 impl Model for Array {
-    ghost use Rattle.sg_plain.specs.Rooms.{HeldRow};
+    ghost use Rattle.sg_model.specs.Objects.{Row};
 
-    ghost Value = { HeldRow };
+    ghost Value = { Row };
 
-    ghost use Rattle.sg_plain.specs.Arrays.{held_row, IsRow};
+    ghost use Rattle.sg_plain.specs.Arrays.{row_of, IsRow};
 
-    ghost view = { held_row };
+    ghost view = { row_of };
 
     ghost invariant = { IsRow };
 }
@@ -94,44 +90,15 @@ fn redo_in(
     ops.redo(code, &mut bytes[at..at + size], arg);
 }
 
-// How many items are put back at the end where a note is undone, if it is one of an array with items of this size.
-fn items_back_by(undo: &Undo, size: usize) -> Option<usize>
-    ensures count { IfSome result (λ n. n ≡ items_back (shown_undo undo.now)) }
-    ensures few { IfSome result (λ n. n ≤ 1) }
-    ensures kind { OnSome result (IsOfRow size (shown_undo undo.now)) }
-{
-    match undo {
-        Undo::Pushed => Some(0),
-        Undo::Popped(item) if item.len() == size => Some(1),
-        Undo::Set { index: _, item } if item.len() == size => Some(0),
-        _ => None,
-    }
-}
-
-// The same of several notes.
-fn items_back_by_all(undos: &[Undo], size: usize) -> Option<usize>
-    ensures count { IfSome result (λ n. n ≡ sum_by items_back (map shown_undo undos.now)) }
-    ensures kind { OnSome result (All (IsOfRow size) (map shown_undo undos.now)) }
-{
-    let mut back = 0;
-    for undo in undos {
-        back += items_back_by(undo, size)?;
-    }
-    Some(back)
-}
-
 #[tactic(auto, using(crate::proofs::Chunks::length_chunks))]
 impl Array {
-    ghost use Rattle.std.specs.Prelude.{◌+◌, ◌^◌};
     ghost use Rattle.sg_model.specs.Step.{put_item};
     ghost use Rattle.sg_model.specs.Undo.{note_array, note_item, note_last, undo};
-    ghost use Rattle.sg_plain.specs.Undone.{shown_undo_of, undo_listed};
-    ghost use Rattle.sg_plain.specs.Ready.{IsReadyRow};
 
     /// An array without items, for items of this many bytes. Takes no memory.
     pub fn new(alloc: Global, size: u64) -> Array
         requires { size ≤ 256 }
-        ensures { result.row ≡ record { size = size; items = [] } }
+        ensures { result ≡ record { size = size; items = [] } }
     {
         Array {
             size: size as usize,
@@ -142,24 +109,24 @@ impl Array {
 
     /// How many bytes an item has.
     pub fn size(&self) -> u64
-        ensures { result ≡ self.now.row.size }
+        ensures { result ≡ self.now.size }
     {
         self.size as u64
     }
 
     /// How many items there are.
     pub fn len(&self) -> usize
-        ensures { result ≡ length self.now.row.items }
+        ensures { result ≡ length self.now.items }
     {
         self.count
     }
 
     // Adds an item of the right size.
     fn add(&mut self, value: &[u8]) -> Result<(), AllocError>
-        requires sized { length value.now ≡ self.old.row.size }
-        requires room { length self.old.row.items < MOST_ITEMS }
-        ensures ok { OnOk result (self.new.row ≡ record { size = self.old.row.size; items = self.old.row.items ++ value.now ∷ [] }) }
-        ensures err { OnErr result (self.new.row ≡ self.old.row) }
+        requires sized { length value.now ≡ self.old.size }
+        requires room { length self.old.items < MOST_ITEMS }
+        ensures ok { OnOk result (self.new ≡ record { size = self.old.size; items = self.old.items ++ value.now ∷ [] }) }
+        ensures err { OnErr result (self.new ≡ self.old) }
     {
         self.bytes.extend_from_slice(value)?;
         self.count += 1;
@@ -169,9 +136,9 @@ impl Array {
     // Takes the last item, which is there, puts its bytes at the front of a buffer, and gives how many
     // they are.
     fn take_last(&mut self, into: &mut [u8]) -> usize
-        requires some { 0 < length self.old.row.items }
+        requires some { 0 < length self.old.items }
         requires room { 256 ≤ length into.old }
-        ensures { self.old.row ≡ record { size = self.new.row.size; items = self.new.row.items ++ take result into.new ∷ [] } }
+        ensures { self.old ≡ record { size = self.new.size; items = self.new.items ++ take result into.new ∷ [] } }
     {
         let rest = self.count - 1;
         put_front(into, item_in(&self.bytes, self.size, self.count, rest));
@@ -182,19 +149,18 @@ impl Array {
 
     // Writes into an item that is there. Takes no memory.
     fn replace(&mut self, index: usize, value: &[u8])
-        requires there { index < length self.old.row.items }
-        requires sized { length value.now ≡ self.old.row.size }
-        ensures after { self.new.row ≡ record { size = self.old.row.size; items = slice_set self.old.row.items index value.now } }
-        ensures room { self.new.room ≡ self.old.room }
+        requires there { index < length self.old.items }
+        requires sized { length value.now ≡ self.old.size }
+        ensures { self.new ≡ record { size = self.old.size; items = slice_set self.old.items index value.now } }
     {
         replace_in(&mut self.bytes, self.size, self.count, index, value);
     }
 
     // Whether a record operation accepts an item that is there.
     fn is_accepted(&self, ops: &Ops, index: usize, code: u16, arg: &[u8]) -> bool
-        requires there { index < length self.now.row.items }
+        requires there { index < length self.now.items }
         requires registered { IsTrue (is_some (record_at (table_of record_meaning range_meaning ops.now) code)) }
-        ensures { result ≡ accepts_of (record_at (table_of record_meaning range_meaning ops.now) code) (slice_index_or self.now.row.items index []) arg.now }
+        ensures { result ≡ accepts_of (record_at (table_of record_meaning range_meaning ops.now) code) (slice_index_or self.now.items index []) arg.now }
     {
         ops.accepts(
             code,
@@ -205,12 +171,12 @@ impl Array {
 
     // Does a record operation to an item that is there and that it accepts.
     fn redo(&mut self, ops: &Ops, index: usize, code: u16, arg: &[u8])
-        requires there { index < length self.old.row.items }
-        requires accepted { IsTrue (accepts_of (record_at (table_of record_meaning range_meaning ops.now) code) (slice_index_or self.old.row.items index []) arg.now) }
-        ensures { self.new.row ≡ record {
-          size = self.old.row.size;
-          items = slice_set self.old.row.items index
-              (after_of (record_at (table_of record_meaning range_meaning ops.now) code) (slice_index_or self.old.row.items index []) arg.now);
+        requires there { index < length self.old.items }
+        requires accepted { IsTrue (accepts_of (record_at (table_of record_meaning range_meaning ops.now) code) (slice_index_or self.old.items index []) arg.now) }
+        ensures { self.new ≡ record {
+          size = self.old.size;
+          items = slice_set self.old.items index
+              (after_of (record_at (table_of record_meaning range_meaning ops.now) code) (slice_index_or self.old.items index []) arg.now);
         } }
     {
         redo_in(
@@ -226,7 +192,7 @@ impl Array {
 
     /// The item at an index, if it is there.
     pub fn get(&self, index: u64) -> Option<&[u8]>
-        ensures item { option_copied result ≡ slice_get self.now.row.items index }
+        ensures item { option_copied result ≡ slice_get self.now.items index }
         ensures size { IfSome result (λ item. length item.now ≤ 256) }
     {
         if index >= self.count as u64 {
@@ -237,7 +203,7 @@ impl Array {
 
     /// Why an item would not be added.
     pub fn push_refusal(&self, value: &[u8]) -> Option<Reason>
-        ensures { Refuses (push value.now self.now.row).0 result }
+        ensures { Refuses (push value.now self.now).0 result }
     {
         if value.len() as u64 != self.size() {
             return Some(Reason::Declined);
@@ -250,7 +216,7 @@ impl Array {
 
     // Why the last item would not be taken.
     fn pop_refusal(&self) -> Option<Reason>
-        ensures { Refuses (pop self.now.row).0 result }
+        ensures { Refuses (pop self.now).0 result }
     {
         if self.len() == 0 {
             return Some(Reason::OutOfRange);
@@ -260,7 +226,7 @@ impl Array {
 
     // Why the item at an index would not be replaced.
     fn set_refusal(&self, index: u64, value: &[u8]) -> Option<Reason>
-        ensures { Refuses (at_item index (set_to value.now) self.now.row).0 result }
+        ensures { Refuses (at_item index (set_to value.now) self.now).0 result }
     {
         if index >= self.len() as u64 {
             return Some(Reason::OutOfRange);
@@ -273,7 +239,7 @@ impl Array {
 
     // Why the item at an index would not be read.
     fn get_refusal(&self, index: u64) -> Option<Reason>
-        ensures { Refuses (at_item index got self.now.row).0 result }
+        ensures { Refuses (at_item index got self.now).0 result }
     {
         if index >= self.len() as u64 {
             return Some(Reason::OutOfRange);
@@ -284,7 +250,7 @@ impl Array {
     // Why a record operation would not be done to the item at an index.
     #[tactic(auto, unfolding(sg_ops::specs::Table::accepts_of))]
     fn change_refusal(&self, ops: &Ops, index: u64, code: u64, arg: &[u8]) -> Option<Reason>
-        ensures { Refuses (apply (table_of record_meaning range_meaning ops.now) index code arg.now self.now.row).0 result }
+        ensures { Refuses (apply (table_of record_meaning range_meaning ops.now) index code arg.now self.now).0 result }
     {
         if arg.len() > MOST_ARG_BYTES {
             return Some(Reason::TooLong);
@@ -307,7 +273,7 @@ impl Array {
     /// Why an operation that makes and drops no object would be refused.
     pub fn refusal(&self, ops: &Ops, op: &Op<'_>) -> Option<Reason>
         requires { IsInPlace (verb_of op.now) }
-        ensures { Refuses (on (table_of record_meaning range_meaning ops.now) (verb_of op.now) (Some (as_object self.now.row))).0 result }
+        ensures { Refuses (on (table_of record_meaning range_meaning ops.now) (verb_of op.now) (Some (as_object self.now))).0 result }
     {
         match *op {
             Op::Push { name: _, value } => self.push_refusal(value),
@@ -343,9 +309,9 @@ impl Array {
     /// array is unchanged.
     #[inline(always)]
     pub fn push(&mut self, value: &[u8]) -> Result<u64, OutOfMemory>
-        requires { IsOk (push value.now self.old.row).0 }
-        ensures done { IfOk result (λ n. push value.now self.old.row ≡ (Ok (Number n), self.new.row)) }
-        ensures err { OnErr result (self.new.row ≡ self.old.row) }
+        requires { IsOk (push value.now self.old).0 }
+        ensures done { IfOk result (λ n. push value.now self.old ≡ (Ok (Number n), self.new)) }
+        ensures err { OnErr result (self.new ≡ self.old) }
     {
         let at = self.len() as u64;
         match self.add(value) {
@@ -357,16 +323,16 @@ impl Array {
     // Takes the last item, and gives its length. Takes no memory.
     fn pop(&mut self, into: &mut [u8]) -> usize
         requires room { 256 ≤ length into.old }
-        requires some { IsOk (pop self.old.row).0 }
-        ensures { pop self.old.row ≡ (Ok (Bytes (take result into.new)), self.new.row) }
+        requires some { IsOk (pop self.old).0 }
+        ensures { pop self.old ≡ (Ok (Bytes (take result into.new)), self.new) }
     {
         self.take_last(into)
     }
 
     // Replaces the item at an index. Takes no memory.
     fn set(&mut self, index: u64, value: &[u8])
-        requires { IsOk (at_item index (set_to value.now) self.old.row).0 }
-        ensures { at_item index (set_to value.now) self.old.row ≡ (Ok Done, self.new.row) }
+        requires { IsOk (at_item index (set_to value.now) self.old).0 }
+        ensures { at_item index (set_to value.now) self.old ≡ (Ok Done, self.new) }
     {
         self.replace(index as usize, value);
     }
@@ -374,8 +340,8 @@ impl Array {
     // Reads the item at an index, and gives its length.
     fn read(&self, index: u64, into: &mut [u8]) -> usize
         requires room { 256 ≤ length into.old }
-        requires there { IsOk (at_item index got self.now.row).0 }
-        ensures { at_item index got self.now.row ≡ (Ok (Bytes (take result into.new)), self.now.row) }
+        requires there { IsOk (at_item index got self.now).0 }
+        ensures { at_item index got self.now ≡ (Ok (Bytes (take result into.new)), self.now) }
     {
         match self.get(index) {
             None => 0,
@@ -389,8 +355,8 @@ impl Array {
     // Does a record operation to the item at an index. Takes no memory.
     #[tactic(auto, unfolding(sg_ops::specs::Table::accepts_of, sg_ops::specs::Table::after_of))]
     fn change(&mut self, ops: &Ops, index: u64, code: u64, arg: &[u8])
-        requires { IsOk (apply (table_of record_meaning range_meaning ops.now) index code arg.now self.old.row).0 }
-        ensures { apply (table_of record_meaning range_meaning ops.now) index code arg.now self.old.row ≡ (Ok Done, self.new.row) }
+        requires { IsOk (apply (table_of record_meaning range_meaning ops.now) index code arg.now self.old).0 }
+        ensures { apply (table_of record_meaning range_meaning ops.now) index code arg.now self.old ≡ (Ok Done, self.new) }
     {
         self.redo(ops, index as usize, code as u16, arg);
     }
@@ -400,7 +366,7 @@ impl Array {
     pub fn reach(&self, op: &Op<'_>, into: &mut Touches)
         requires in_place { IsInPlace (verb_of op.now) }
         requires room { length (shown_touches into.old) ≤ 1 }
-        ensures { shown_touches into.new ≡ shown_touches into.old ++ map (touch_of (name_of op.now)) (array_touches (verb_of op.now) self.now.row) }
+        ensures { shown_touches into.new ≡ shown_touches into.old ++ map (touch_of (name_of op.now)) (array_touches (verb_of op.now) self.now) }
     {
         match *op {
             Op::Push { name, value: _ } => {
@@ -435,9 +401,9 @@ impl Array {
     pub fn apply(&mut self, ops: &Ops, op: &Op<'_>, into: &mut [u8]) -> Result<Reply, OutOfMemory>
         requires room { 8192 ≤ length into.old }
         requires in_place { IsInPlace (verb_of op.now) }
-        requires accepted { IsOk (on (table_of record_meaning range_meaning ops.now) (verb_of op.now) (Some (as_object self.old.row))).0 }
-        ensures done { IfOk result (λ r. on (table_of record_meaning range_meaning ops.now) (verb_of op.now) (Some (as_object self.old.row)) ≡ (Ok (said_reply into.new r), Some (as_object self.new.row))) }
-        ensures err { OnErr result (self.new.row ≡ self.old.row) }
+        requires accepted { IsOk (on (table_of record_meaning range_meaning ops.now) (verb_of op.now) (Some (as_object self.old))).0 }
+        ensures done { IfOk result (λ r. on (table_of record_meaning range_meaning ops.now) (verb_of op.now) (Some (as_object self.old)) ≡ (Ok (said_reply into.new r), Some (as_object self.new))) }
+        ensures err { OnErr result (self.new ≡ self.old) }
         ensures memory { OnErr result (GrowsBy (verb_of op.now)) }
     {
         match *op {
@@ -470,75 +436,53 @@ impl Array {
     }
 
     // What undoes a change of the item at an index, if it is there.
-    fn undo_of_item(&self, alloc: Global, index: u64) -> Result<Option<Undo>, OutOfMemory>
-        ensures { IfOk result (λ undo. shown_undo_of undo ≡ note_item index (slice_get self.now.row.items index)) }
+    fn undo_of_item(&self, alloc: Global, index: u64) -> Result<Undo, OutOfMemory>
+        ensures { IfOk result (λ undo. shown_undo undo ≡ note_item index (slice_get self.now.items index)) }
     {
         let Some(item) = self.get(index) else {
-            return Ok(None);
+            return Ok(Undo::Nothing);
         };
         match Vec::from_slice(alloc, item) {
-            Ok(item) => Ok(Some(Undo::Set {
+            Ok(item) => Ok(Undo::Set {
                 index: index as usize,
                 item,
-            })),
+            }),
             Err(_) => Err(OutOfMemory),
         }
     }
 
     // What undoes that the last item is taken, if there is one.
-    fn undo_of_pop(&self, alloc: Global) -> Result<Option<Undo>, OutOfMemory>
-        ensures { IfOk result (λ undo. shown_undo_of undo ≡ note_last (length self.now.row.items) self.now.row) }
+    fn undo_of_pop(&self, alloc: Global) -> Result<Undo, OutOfMemory>
+        ensures { IfOk result (λ undo. shown_undo undo ≡ note_last (length self.now.items) self.now) }
     {
         if self.len() == 0 {
-            return Ok(None);
+            return Ok(Undo::Nothing);
         }
         match self.get(self.len() as u64 - 1) {
-            None => Ok(None),
+            None => Ok(Undo::Nothing),
             Some(item) => match Vec::from_slice(alloc, item) {
-                Ok(item) => Ok(Some(Undo::Popped(item))),
+                Ok(item) => Ok(Undo::Popped(item)),
                 Err(_) => Err(OutOfMemory),
             },
         }
     }
 
     /// What undoes an operation that isn't refused: nothing, where it changes nothing.
-    pub fn undo_of(&self, alloc: Global, op: &Op<'_>) -> Result<Option<Undo>, OutOfMemory>
-        ensures { IfOk result (λ undo. shown_undo_of undo ≡ note_array (verb_of op.now) self.now.row) }
+    pub fn undo_of(&self, alloc: Global, op: &Op<'_>) -> Result<Undo, OutOfMemory>
+        ensures { IfOk result (λ undo. shown_undo undo ≡ note_array (verb_of op.now) self.now) }
     {
         match *op {
-            Op::Push { .. } => Ok(Some(Undo::Pushed)),
+            Op::Push { .. } => Ok(Undo::Pushed),
             Op::Pop { .. } => self.undo_of_pop(alloc),
             Op::Set { index, .. } => self.undo_of_item(alloc, index),
             Op::Apply { index, .. } => self.undo_of_item(alloc, index),
-            _ => Ok(None),
-        }
-    }
-
-    /// Takes memory so that the notes can be undone without any more, and leaves the items as they are.
-    /// It answers `OutOfMemory` too where the notes aren't those of an array with items of this size.
-    pub fn make_ready(&mut self, undos: &[Undo]) -> Result<(), OutOfMemory>
-        ensures same { self.new.row ≡ self.old.row }
-        ensures ready { OnOk result (IsReadyRow (map shown_undo undos.now) self.new) }
-    {
-        let Some(back) = items_back_by_all(undos, self.size) else {
-            return Err(OutOfMemory);
-        };
-        let Some(most) = self.count.checked_add(back) else {
-            return Err(OutOfMemory);
-        };
-        let Some(room) = most.checked_mul(self.size) else {
-            return Err(OutOfMemory);
-        };
-        match self.bytes.reserve(room - self.bytes.len()) {
-            Ok(()) => Ok(()),
-            Err(_) => Err(OutOfMemory),
+            _ => Ok(Undo::Nothing),
         }
     }
 
     // Takes the last item away, if there is one. Takes no memory.
     fn cut_last(&mut self)
-        ensures after { self.new.row ≡ (pop self.old.row).1 }
-        ensures room { self.new.room ≡ self.old.room }
+        ensures { self.new ≡ (pop self.old).1 }
     {
         if self.count > 0 {
             let left = self.count - 1;
@@ -547,55 +491,58 @@ impl Array {
         }
     }
 
-    // Puts an item back at the end. Takes no memory.
-    fn put_back(&mut self, item: &[u8])
-        requires sized { length item.now ≡ self.old.row.size }
-        requires few { length self.old.row.items + 1 < 2 ^ 64 }
-        requires fits { (length self.old.row.items + 1) * self.old.row.size ≤ self.old.room }
-        ensures after { self.new.row ≡ record { size = self.old.row.size; items = self.old.row.items ++ item.now ∷ [] } }
-        ensures room { self.old.room ≤ self.new.room }
+    // Puts an item that fits back at the end.
+    fn put_back(&mut self, item: &[u8]) -> Result<(), OutOfMemory>
+        ensures { OnOk result (self.new ≡ record { size = self.old.size; items = self.old.items ++ item.now ∷ [] }) }
     {
-        match self.bytes.extend_from_slice(item) {
-            Ok(()) => self.count += 1,
-            Err(_) => unreachable!(),
+        if item.len() as u64 != self.size() || self.len() >= MOST_ITEMS {
+            return Err(OutOfMemory);
+        }
+        match self.add(item) {
+            Ok(()) => Ok(()),
+            Err(_) => Err(OutOfMemory),
         }
     }
 
-    // Puts an item back in its place, if the place is there. Takes no memory.
-    fn set_back(&mut self, index: usize, item: &[u8])
-        requires { length item.now ≡ self.old.row.size }
-        ensures after { self.new.row ≡ put_item self.old.row index (Some item.now) }
-        ensures room { self.new.room ≡ self.old.room }
+    // Puts an item that fits back in its place, if the place is there.
+    fn set_back(&mut self, index: usize, item: &[u8]) -> Result<(), OutOfMemory>
+        ensures { OnOk result (self.new ≡ put_item self.old index (Some item.now)) }
     {
-        if index < self.count {
-            self.replace(index, item);
+        if item.len() as u64 != self.size() {
+            return Err(OutOfMemory);
         }
+        if index >= self.len() {
+            return Ok(());
+        }
+        self.replace(index, item);
+        Ok(())
     }
 
-    // Undoes what a note says. Takes no memory.
-    fn undo(&mut self, note: Undo)
-        requires kind { IsOfRow self.old.row.size (shown_undo note) }
-        requires fits { (length self.old.row.items + items_back (shown_undo note)) * self.old.row.size ≤ self.old.room }
-        requires few { length self.old.row.items + items_back (shown_undo note) < 2 ^ 64 }
-        ensures after { Some (as_object self.new.row) ≡ undo (shown_undo note) (Some (as_object self.old.row)) }
-        ensures room { self.old.room ≤ self.new.room }
+    /// Undoes what a note says. It answers `OutOfMemory` too where the note isn't one of an array with items of this
+    /// size, and then some of it may be done.
+    pub fn undo(&mut self, note: &Undo) -> Result<(), OutOfMemory>
+        ensures { OnOk result (Some (as_object self.new) ≡ undo (shown_undo note.now) (Some (as_object self.old))) }
     {
         match note {
-            Undo::Pushed => self.cut_last(),
-            Undo::Popped(item) => self.put_back(&item),
-            Undo::Set { index, item } => self.set_back(index, &item),
-            _ => unreachable!(),
+            Undo::Pushed => {
+                self.cut_last();
+                Ok(())
+            }
+            Undo::Popped(item) => self.put_back(item),
+            Undo::Set { index, item } => self.set_back(*index, item),
+            _ => Err(OutOfMemory),
         }
     }
+}
 
-    /// Undoes what the notes say, the last one first. Takes no memory.
-    pub fn undo_all(&mut self, undos: Vec<Undo>)
-        requires { IsReadyRow (map shown_undo undos.items) self.old }
-        ensures { Some (as_object self.new.row) ≡ undo_listed undos.items (Some (as_object self.old.row)) }
-    {
-        let mut undos = undos;
-        while let Some(note) = undos.pop() {
-            self.undo(note);
-        }
+impl Clone for Array {
+    ghost is_clone = { λ array copy. copy ≡ array };
+
+    fn clone(&self) -> Result<Array, AllocError> {
+        Ok(Array {
+            size: self.size,
+            count: self.count,
+            bytes: self.bytes.clone()?,
+        })
     }
 }

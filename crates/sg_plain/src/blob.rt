@@ -1,7 +1,5 @@
-ghost use Rattle.std.specs.Prelude.{◌≡◌, ◌+◌, ◌≤◌, ◌<◌, [], length, take, drop, OnOk, OnErr, IsOk, IsTrue, is_some, IfOk, IfSome, Ok, Err, Some, ◌++◌, map};
-ghost use Rattle.std.specs.List.{All};
+ghost use Rattle.std.specs.Prelude.{◌≡◌, ◌+◌, ◌≤◌, ◌<◌, [], length, take, OnOk, OnErr, IsOk, IsTrue, is_some, IfOk, Ok, Err, Some, ◌++◌, map};
 ghost use Rattle.sg_ops.specs.Table.{table_of, range_at, rendered};
-ghost use Rattle.sg_plain.specs.Ready.{IsOfBytes};
 ghost use Rattle.sg_plain.specs.Undone.{shown_undo};
 ghost use Rattle.sg_model.specs.Objects.Object.{Blob as as_object};
 ghost use Rattle.sg_model.specs.SaidReplies.{said_reply};
@@ -19,7 +17,7 @@ use sg_base::OutOfMemory;
 use sg_model::{Op, Reason, Reply, Resource, Touches};
 use sg_ops::Ops;
 use std::alloc::{AllocError, Global};
-use std::cmp::{max, min};
+use std::cmp::min;
 use std::marker::Model;
 
 /// The most bytes of a blob.
@@ -28,56 +26,29 @@ const MOST_BLOB_BYTES: u64 = 16384000;
 /// The most bytes that one operation writes or reads.
 const MOST_BYTES: u64 = 8192;
 
-/// At most 16,384,000 bytes, which contracts see as a list, with how many have memory.
+/// At most 16,384,000 bytes, which contracts see as a list.
 #[derive(Drop)]
 pub struct Blob {
     bytes: Vec<u8>,
 }
 
 impl Model for Blob {
-    ghost use Rattle.std.specs.Prelude.{◌≤◌, length, vec_capacity};
-    ghost use Rattle.sg_plain.specs.Rooms.{HeldBytes};
+    ghost use Rattle.std.specs.Prelude.{◌≤◌, length, List, ℕ};
 
-    ghost Value = { HeldBytes };
+    ghost Value = { List ℕ };
 
-    ghost view = { λ b. record { bytes = b.bytes.items; room = vec_capacity b.bytes } };
+    ghost view = { λ b. b.bytes.items };
 
     ghost invariant = { λ b. length b.bytes.items ≤ 16384000 };
-}
-
-// The length that a note gives back, if it is one of a blob, whose bytes lie within that length.
-fn length_back(undo: &Undo) -> Option<usize>
-    ensures { IfSome result (λ len. IsOfBytes len (shown_undo undo.now)) }
-{
-    match undo {
-        Undo::Bytes { at, bytes, length }
-            if *length as u64 <= MOST_BLOB_BYTES
-                && *at <= *length
-                && bytes.len() <= *length - *at => { Some(*length) }
-        _ => None,
-    }
-}
-
-// The greatest length that the notes give back, if they are all of a blob.
-fn greatest_length(undos: &[Undo]) -> Option<usize>
-    ensures { IfSome result (λ most. All (IsOfBytes most) (map shown_undo undos.now)) }
-{
-    let mut most = 0;
-    for undo in undos {
-        most = max(most, length_back(undo)?);
-    }
-    Some(most)
 }
 
 impl Blob {
     ghost use Rattle.sg_model.specs.Verb.Verb.{Size};
     ghost use Rattle.sg_model.specs.Undo.{note_blob, note_bytes, undo};
-    ghost use Rattle.sg_plain.specs.Undone.{shown_undo_of, undo_listed};
-    ghost use Rattle.sg_plain.specs.Ready.{IsReadyBytes};
 
     /// A blob without bytes. Takes no memory.
     pub fn new(alloc: Global) -> Blob
-        ensures { result.bytes ≡ [] }
+        ensures { result ≡ [] }
     {
         Blob {
             bytes: Vec::new(alloc),
@@ -86,45 +57,35 @@ impl Blob {
 
     /// How many bytes it has, at most 16,384,000.
     pub fn len(&self) -> usize
-        ensures len { result ≡ length self.now.bytes }
+        ensures len { result ≡ length self.now }
         ensures most { result ≤ 16384000 }
     {
         self.bytes.len()
     }
 
-    /// Its bytes.
-    pub fn bytes(&self) -> &[u8]
-        ensures { result.now ≡ self.now.bytes }
-    {
-        &self.bytes
-    }
-
     // Sets the length; the bytes gained are 0.
     fn set_len(&mut self, len: usize) -> Result<(), AllocError>
         requires { len ≤ 16384000 }
-        ensures ok { OnOk result (self.new.bytes ≡ resized len self.old.bytes) }
-        ensures err { OnErr result (self.new.bytes ≡ self.old.bytes) }
-        ensures full { OnErr result (self.old.room < len) }
-        ensures room { self.old.room ≤ self.new.room }
+        ensures ok { OnOk result (self.new ≡ resized len self.old) }
+        ensures err { OnErr result (self.new ≡ self.old) }
     {
         self.bytes.resize(len, 0)
     }
 
     // Writes over bytes that are there.
     fn replace(&mut self, at: usize, bytes: &[u8])
-        requires { at + length bytes.now ≤ length self.old.bytes }
-        ensures after { self.new.bytes ≡ overlaid self.old.bytes at bytes.now }
-        ensures room { self.new.room ≡ self.old.room }
+        requires { at + length bytes.now ≤ length self.old }
+        ensures { self.new ≡ overlaid self.old at bytes.now }
     {
         self.bytes[at..at + bytes.len()].copy_from_slice(bytes);
     }
 
     // Writes bytes from a place on that is there, and past the end.
     fn overlay(&mut self, at: usize, bytes: &[u8]) -> Result<(), AllocError>
-        requires there { at ≤ length self.old.bytes }
+        requires there { at ≤ length self.old }
         requires fits { at + length bytes.now ≤ 16384000 }
-        ensures ok { OnOk result (self.new.bytes ≡ overlaid self.old.bytes at bytes.now) }
-        ensures err { OnErr result (self.new.bytes ≡ self.old.bytes) }
+        ensures ok { OnOk result (self.new ≡ overlaid self.old at bytes.now) }
+        ensures err { OnErr result (self.new ≡ self.old) }
     {
         let end = at + bytes.len();
         if end > self.len() {
@@ -136,17 +97,17 @@ impl Blob {
 
     // Writes a range operation's bytes over bytes that are there.
     fn render(&mut self, ops: &Ops, at: usize, count: usize, code: u16, arg: &[u8])
-        requires there { at + count ≤ length self.old.bytes }
-        requires most { length self.old.bytes ≤ 16384000 }
+        requires there { at + count ≤ length self.old }
+        requires most { length self.old ≤ 16384000 }
         requires registered { IsTrue (is_some (range_at (table_of record_meaning range_meaning ops.now) code)) }
-        ensures { self.new.bytes ≡ overlaid self.old.bytes at (rendered (range_at (table_of record_meaning range_meaning ops.now) code) arg.now at count) }
+        ensures { self.new ≡ overlaid self.old at (rendered (range_at (table_of record_meaning range_meaning ops.now) code) arg.now at count) }
     {
         ops.render(code, at as u32, arg, &mut self.bytes[at..at + count]);
     }
 
     // Why bytes would not be written.
     fn write_refusal(&self, at: u64, bytes: &[u8]) -> Option<Reason>
-        ensures { Refuses (write at bytes.now self.now.bytes).0 result }
+        ensures { Refuses (write at bytes.now self.now).0 result }
     {
         let count = bytes.len() as u64;
         if count > MOST_BYTES || at > MOST_BLOB_BYTES || at + count > MOST_BLOB_BYTES {
@@ -160,7 +121,7 @@ impl Blob {
 
     // Why bytes would not be read.
     fn read_refusal(&self, at: u64, count: u64) -> Option<Reason>
-        ensures { Refuses (read at count self.now.bytes) result }
+        ensures { Refuses (read at count self.now) result }
     {
         if count > MOST_BYTES {
             return Some(Reason::TooLong);
@@ -174,7 +135,7 @@ impl Blob {
 
     // Why the length would not be set.
     fn size_refusal(&self, length: u64) -> Option<Reason>
-        ensures { Refuses (resize length self.now.bytes).0 result }
+        ensures { Refuses (resize length self.now).0 result }
     {
         if length > MOST_BLOB_BYTES {
             return Some(Reason::TooLong);
@@ -184,7 +145,7 @@ impl Blob {
 
     // Why a range operation's bytes would not be written.
     fn paint_refusal(&self, ops: &Ops, at: u64, count: u64, code: u64, arg: &[u8]) -> Option<Reason>
-        ensures { Refuses (paint (table_of record_meaning range_meaning ops.now) at count code arg.now self.now.bytes).0 result }
+        ensures { Refuses (paint (table_of record_meaning range_meaning ops.now) at count code arg.now self.now).0 result }
     {
         if arg.len() > MOST_ARG_BYTES {
             return Some(Reason::TooLong);
@@ -205,7 +166,7 @@ impl Blob {
     /// Why an operation that makes and drops no object would be refused.
     pub fn refusal(&self, ops: &Ops, op: &Op<'_>) -> Option<Reason>
         requires { IsInPlace (verb_of op.now) }
-        ensures { Refuses (on (table_of record_meaning range_meaning ops.now) (verb_of op.now) (Some (as_object self.now.bytes))).0 result }
+        ensures { Refuses (on (table_of record_meaning range_meaning ops.now) (verb_of op.now) (Some (as_object self.now))).0 result }
     {
         match *op {
             Op::Len { name: _ } => None,
@@ -229,9 +190,9 @@ impl Blob {
 
     // Writes bytes, and past the end.
     fn write(&mut self, at: u64, bytes: &[u8]) -> Result<(), OutOfMemory>
-        requires { IsOk (write at bytes.now self.old.bytes).0 }
-        ensures ok { OnOk result (write at bytes.now self.old.bytes ≡ (Ok Done, self.new.bytes)) }
-        ensures err { OnErr result (self.new.bytes ≡ self.old.bytes) }
+        requires { IsOk (write at bytes.now self.old).0 }
+        ensures ok { OnOk result (write at bytes.now self.old ≡ (Ok Done, self.new)) }
+        ensures err { OnErr result (self.new ≡ self.old) }
     {
         match self.overlay(at as usize, bytes) {
             Ok(()) => Ok(()),
@@ -242,8 +203,8 @@ impl Blob {
     // Reads bytes, and gives how many.
     fn read(&self, at: u64, count: u64, into: &mut [u8]) -> usize
         requires room { 8192 ≤ length into.old }
-        requires accepted { IsOk (read at count self.now.bytes) }
-        ensures { read at count self.now.bytes ≡ Ok (Bytes (take result into.new)) }
+        requires accepted { IsOk (read at count self.now) }
+        ensures { read at count self.now ≡ Ok (Bytes (take result into.new)) }
     {
         let bytes = &self.bytes[at as usize..(at + count) as usize];
         put_front(into, bytes);
@@ -252,9 +213,9 @@ impl Blob {
 
     // Sets the length.
     fn size(&mut self, length: u64) -> Result<(), OutOfMemory>
-        requires { IsOk (resize length self.old.bytes).0 }
-        ensures ok { OnOk result (resize length self.old.bytes ≡ (Ok Done, self.new.bytes)) }
-        ensures err { OnErr result (self.new.bytes ≡ self.old.bytes) }
+        requires { IsOk (resize length self.old).0 }
+        ensures ok { OnOk result (resize length self.old ≡ (Ok Done, self.new)) }
+        ensures err { OnErr result (self.new ≡ self.old) }
     {
         match self.set_len(length as usize) {
             Ok(()) => Ok(()),
@@ -264,8 +225,8 @@ impl Blob {
 
     // Writes a range operation's bytes. Takes no memory.
     fn paint(&mut self, ops: &Ops, at: u64, count: u64, code: u64, arg: &[u8])
-        requires { IsOk (paint (table_of record_meaning range_meaning ops.now) at count code arg.now self.old.bytes).0 }
-        ensures { paint (table_of record_meaning range_meaning ops.now) at count code arg.now self.old.bytes ≡ (Ok Done, self.new.bytes) }
+        requires { IsOk (paint (table_of record_meaning range_meaning ops.now) at count code arg.now self.old).0 }
+        ensures { paint (table_of record_meaning range_meaning ops.now) at count code arg.now self.old ≡ (Ok Done, self.new) }
     {
         let _len = self.len();
         self.render(ops, at as usize, count as usize, code as u16, arg);
@@ -294,9 +255,9 @@ impl Blob {
     pub fn apply(&mut self, ops: &Ops, op: &Op<'_>, into: &mut [u8]) -> Result<Reply, OutOfMemory>
         requires room { 8192 ≤ length into.old }
         requires in_place { IsInPlace (verb_of op.now) }
-        requires accepted { IsOk (on (table_of record_meaning range_meaning ops.now) (verb_of op.now) (Some (as_object self.old.bytes))).0 }
-        ensures done { IfOk result (λ r. on (table_of record_meaning range_meaning ops.now) (verb_of op.now) (Some (as_object self.old.bytes)) ≡ (Ok (said_reply into.new r), Some (as_object self.new.bytes))) }
-        ensures err { OnErr result (self.new.bytes ≡ self.old.bytes) }
+        requires accepted { IsOk (on (table_of record_meaning range_meaning ops.now) (verb_of op.now) (Some (as_object self.old))).0 }
+        ensures done { IfOk result (λ r. on (table_of record_meaning range_meaning ops.now) (verb_of op.now) (Some (as_object self.old)) ≡ (Ok (said_reply into.new r), Some (as_object self.new))) }
+        ensures err { OnErr result (self.new ≡ self.old) }
         ensures memory { OnErr result (GrowsBy (verb_of op.now)) }
     {
         match *op {
@@ -325,89 +286,77 @@ impl Blob {
     }
 
     // What undoes a change of so many bytes from a position on.
-    fn undo_of_bytes(&self, alloc: Global, at: u64, count: u64) -> Result<Option<Undo>, OutOfMemory>
-        ensures { IfOk result (λ undo. shown_undo_of undo ≡ note_bytes at count self.now.bytes) }
+    fn undo_of_bytes(&self, alloc: Global, at: u64, count: u64) -> Result<Undo, OutOfMemory>
+        ensures { IfOk result (λ undo. shown_undo undo ≡ note_bytes at count self.now) }
     {
         let len = self.len();
         let from = min(at as usize, len);
         let bytes = &self.bytes[from..];
         let bytes = &bytes[..min(count as usize, bytes.len())];
         match Vec::from_slice(alloc, bytes) {
-            Ok(bytes) => Ok(Some(Undo::Bytes {
+            Ok(bytes) => Ok(Undo::Bytes {
                 at: at as usize,
                 bytes,
                 length: len,
-            })),
+            }),
             Err(_) => Err(OutOfMemory),
         }
     }
 
     // What undoes that the length is set.
-    fn undo_of_size(&self, alloc: Global, length: u64) -> Result<Option<Undo>, OutOfMemory>
-        ensures { IfOk result (λ undo. shown_undo_of undo ≡ note_blob (Size length) self.now.bytes) }
+    fn undo_of_size(&self, alloc: Global, length: u64) -> Result<Undo, OutOfMemory>
+        ensures { IfOk result (λ undo. shown_undo undo ≡ note_blob (Size length) self.now) }
     {
         let whole = self.len();
         let at = min(length as usize, whole);
         match Vec::from_slice(alloc, &self.bytes[at..]) {
-            Ok(bytes) => Ok(Some(Undo::Bytes {
+            Ok(bytes) => Ok(Undo::Bytes {
                 at,
                 bytes,
                 length: whole,
-            })),
+            }),
             Err(_) => Err(OutOfMemory),
         }
     }
 
     /// What undoes an operation that isn't refused: nothing, where it changes nothing.
-    pub fn undo_of(&self, alloc: Global, op: &Op<'_>) -> Result<Option<Undo>, OutOfMemory>
-        ensures { IfOk result (λ undo. shown_undo_of undo ≡ note_blob (verb_of op.now) self.now.bytes) }
+    pub fn undo_of(&self, alloc: Global, op: &Op<'_>) -> Result<Undo, OutOfMemory>
+        ensures { IfOk result (λ undo. shown_undo undo ≡ note_blob (verb_of op.now) self.now) }
     {
         match *op {
             Op::Write { name: _, at, bytes } => self.undo_of_bytes(alloc, at, bytes.len() as u64),
             Op::Size { name: _, length } => self.undo_of_size(alloc, length),
             Op::Paint { at, count, .. } => self.undo_of_bytes(alloc, at, count),
-            _ => Ok(None),
+            _ => Ok(Undo::Nothing),
         }
     }
 
-    /// Takes memory so that the notes can be undone without any more, and leaves the bytes as they are.
-    /// It answers `OutOfMemory` too where the notes aren't those of a blob.
-    pub fn make_ready(&mut self, undos: &[Undo]) -> Result<(), OutOfMemory>
-        ensures same { self.new.bytes ≡ self.old.bytes }
-        ensures ready { OnOk result (IsReadyBytes (map shown_undo undos.now) self.new) }
-    {
-        let Some(most) = greatest_length(undos) else {
-            return Err(OutOfMemory);
-        };
-        match self.bytes.reserve(most.saturating_sub(self.bytes.len())) {
-            Ok(()) => Ok(()),
-            Err(_) => Err(OutOfMemory),
-        }
-    }
-
-    // Undoes what a note says. Takes no memory.
-    fn undo(&mut self, note: Undo)
-        requires { IsOfBytes self.old.room (shown_undo note) }
-        ensures after { Some (as_object self.new.bytes) ≡ undo (shown_undo note) (Some (as_object self.old.bytes)) }
-        ensures room { self.old.room ≤ self.new.room }
+    /// Undoes what a note says. It answers `OutOfMemory` too where the note isn't one of a blob.
+    pub fn undo(&mut self, note: &Undo) -> Result<(), OutOfMemory>
+        ensures { OnOk result (Some (as_object self.new) ≡ undo (shown_undo note.now) (Some (as_object self.old))) }
     {
         match note {
-            Undo::Bytes { at, bytes, length } => match self.set_len(length) {
-                Ok(()) => self.replace(at, &bytes),
-                Err(_) => unreachable!(),
-            },
-            _ => unreachable!(),
+            Undo::Bytes { at, bytes, length }
+                if *length as u64 <= MOST_BLOB_BYTES
+                    && *at <= *length
+                    && bytes.len() <= *length - *at => {
+                let Ok(()) = self.set_len(*length) else {
+                    return Err(OutOfMemory);
+                };
+                self.replace(*at, bytes);
+                Ok(())
+            }
+            _ => Err(OutOfMemory),
         }
     }
+}
 
-    /// Undoes what the notes say, the last one first. Takes no memory.
-    pub fn undo_all(&mut self, undos: Vec<Undo>)
-        requires { IsReadyBytes (map shown_undo undos.items) self.old }
-        ensures { Some (as_object self.new.bytes) ≡ undo_listed undos.items (Some (as_object self.old.bytes)) }
-    {
-        let mut undos = undos;
-        while let Some(note) = undos.pop() {
-            self.undo(note);
-        }
+impl Clone for Blob {
+    ghost is_clone = { λ blob copy. copy ≡ blob };
+
+    fn clone(&self) -> Result<Blob, AllocError> {
+        Ok(Blob {
+            bytes: self.bytes.clone()?,
+        })
     }
 }

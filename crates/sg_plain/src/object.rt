@@ -17,7 +17,7 @@ use crate::undo::Undo;
 use sg_base::{Name, OutOfMemory};
 use sg_model::{Key, Op, Reason, Reply, Resource, Touches};
 use sg_ops::Ops;
-use std::alloc::Global;
+use std::alloc::{AllocError, Global};
 
 /// An object.
 #[derive(Drop)]
@@ -31,11 +31,8 @@ pub enum Object {
 }
 
 impl Object {
-    ghost use Rattle.std.specs.Prelude.{Option};
-    ghost use Rattle.sg_model.specs.Objects as plain;
     ghost use Rattle.sg_model.specs.Undo.{undo, note_there};
-    ghost use Rattle.sg_plain.specs.Undone.{shown_undo, shown_undo_of, undo_listed};
-    ghost use Rattle.sg_plain.specs.Ready.{IsReady};
+    ghost use Rattle.sg_plain.specs.Undone.{shown_undo};
 
     /// Why an operation that makes and drops no object would be refused.
     #[tactic(auto, using(crate::proofs::Steps::table_refuses))]
@@ -140,11 +137,12 @@ impl Object {
         }
     }
 
-    /// What undoes an operation that isn't refused, and that makes and drops no object: nothing, where it changes nothing.
-    pub fn undo_of(&self, alloc: Global, op: &Op<'_>) -> Result<Option<Undo>, OutOfMemory>
+    // What undoes an operation that isn't refused, and that neither drops the object nor makes one.
+    #[tactic(auto, using(crate::proofs::Steps::table_accepts))]
+    fn undo_in_place(&self, alloc: Global, op: &Op<'_>) -> Result<Undo, OutOfMemory>
         requires in_place { IsInPlace (verb_of op.now) }
         requires accepted { (t : Operations) × IsOk (on t (verb_of op.now) (Some (shown self.now))).0 }
-        ensures { IfOk result (λ undo. shown_undo_of undo ≡ note_there (verb_of op.now) (shown self.now)) }
+        ensures { IfOk result (λ undo. shown_undo undo ≡ note_there (verb_of op.now) (shown self.now)) }
     {
         match self {
             Object::Array(array) => array.undo_of(alloc, op),
@@ -153,78 +151,57 @@ impl Object {
         }
     }
 
-    /// Does an operation that isn't refused, and that makes and drops no object, and adds what undoes it to the notes.
-    /// After `OutOfMemory` neither the object nor the notes have changed.
-    pub fn edit(
-        &mut self,
-        alloc: Global,
-        ops: &Ops,
-        op: &Op<'_>,
-        into: &mut [u8],
-        undos: &mut Vec<Undo>,
-    ) -> Result<Reply, OutOfMemory>
-        requires room { 8192 ≤ length into.old }
-        requires in_place { IsInPlace (verb_of op.now) }
-        requires accepted { IsOk (on (table_of record_meaning range_meaning ops.now) (verb_of op.now) (Some (shown self.old))).0 }
-        ensures done { IfOk result (λ r. on (table_of record_meaning range_meaning ops.now) (verb_of op.now) (Some (shown self.old)) ≡ (Ok (said_reply into.new r), Some (shown self.new))) }
-        ensures noted { OnOk result ((was : Option plain.Object) → undo_listed undos.new.items was ≡ undo_listed undos.old.items (undo (note_there (verb_of op.now) (shown self.old)) was)) }
-        ensures err { OnErr result (shown self.new ≡ shown self.old) }
-        ensures same { OnErr result (undos.new.items ≡ undos.old.items) }
+    /// What undoes an operation that isn't refused: nothing, where it changes nothing.
+    pub fn undo_of(&self, alloc: Global, op: &Op<'_>) -> Result<Undo, OutOfMemory>
+        requires { (t : Operations) × IsOk (on t (verb_of op.now) (Some (shown self.now))).0 }
+        ensures { IfOk result (λ undo. shown_undo undo ≡ note_there (verb_of op.now) (shown self.now)) }
     {
-        if undos.reserve(1).is_err() {
-            return Err(OutOfMemory);
-        }
-        let Ok(undo) = self.undo_of(alloc, op) else {
-            return Err(OutOfMemory);
-        };
-        match self.apply(alloc, ops, op, into) {
-            Ok(reply) => {
-                if let Some(undo) = undo {
-                    undos.push_reserved(undo);
-                }
-                Ok(reply)
-            }
-            Err(fault) => {
-                drop(undo);
-                Err(fault)
-            }
+        match *op {
+            Op::Discard { .. } => match self.clone() {
+                Ok(object) => Ok(Undo::Dropped(object)),
+                Err(_) => Err(OutOfMemory),
+            },
+            Op::MakeArray { .. } | Op::MakeTable { .. } | Op::MakeBlob { .. } => unreachable!(),
+            Op::Push { .. }
+            | Op::Pop { .. }
+            | Op::Set { .. }
+            | Op::Get { .. }
+            | Op::Len { .. }
+            | Op::Apply { .. }
+            | Op::Put { .. }
+            | Op::Del { .. }
+            | Op::Find { .. }
+            | Op::Write { .. }
+            | Op::Read { .. }
+            | Op::Size { .. }
+            | Op::Paint { .. } => self.undo_in_place(alloc, op),
         }
     }
 
-    /// Takes memory so that the notes can be undone without any more, and leaves the object as it is.
-    /// It answers `OutOfMemory` too where the notes aren't those of an object like this.
-    #[tactic(auto, unfolding(crate::specs::Ready::IsReady))]
-    pub fn make_ready(&mut self, undos: &[Undo]) -> Result<(), OutOfMemory>
-        ensures same { shown self.new ≡ shown self.old }
-        ensures ready { OnOk result (IsReady (map shown_undo undos.now) self.new) }
+    /// Undoes what a note says that neither makes nor drops an object. It answers `OutOfMemory` too where the note isn't one
+    /// of an object like this, and then some of it may be done.
+    pub fn undo(&mut self, alloc: Global, note: &Undo) -> Result<(), OutOfMemory>
+        ensures { OnOk result (Some (shown self.new) ≡ undo (shown_undo note.now) (Some (shown self.old))) }
     {
+        if let Undo::Nothing = note {
+            return Ok(());
+        }
         match self {
-            Object::Array(array) => array.make_ready(undos),
-            Object::Table(table) => table.make_ready(undos),
-            Object::Blob(blob) => blob.make_ready(undos),
+            Object::Array(array) => array.undo(note),
+            Object::Table(table) => table.undo(alloc, note),
+            Object::Blob(blob) => blob.undo(note),
         }
     }
+}
 
-    /// Undoes what the notes say, the last one first. Takes no memory.
-    #[tactic(auto, unfolding(crate::specs::Ready::IsReady))]
-    pub fn undo_all(&mut self, undos: Vec<Undo>)
-        requires { IsReady (map shown_undo undos.items) self.old }
-        ensures { Some (shown self.new) ≡ undo_listed undos.items (Some (shown self.old)) }
-    {
-        match self {
-            Object::Array(array) => array.undo_all(undos),
-            Object::Table(table) => table.undo_all(undos),
-            Object::Blob(blob) => blob.undo_all(undos),
-        }
-    }
+impl Clone for Object {
+    ghost is_clone = { λ object copy. shown copy ≡ shown object };
 
-    /// Takes away room that notes needed, where it is known to be empty. Takes no memory.
-    pub fn drop_places(&mut self)
-        ensures { shown self.new ≡ shown self.old }
-    {
+    fn clone(&self) -> Result<Object, AllocError> {
         match self {
-            Object::Table(table) => table.drop_places(),
-            Object::Array(_) | Object::Blob(_) => {}
+            Object::Array(array) => Ok(Object::Array(array.clone()?)),
+            Object::Table(table) => Ok(Object::Table(table.clone()?)),
+            Object::Blob(blob) => Ok(Object::Blob(blob.clone()?)),
         }
     }
 }

@@ -1,10 +1,6 @@
-ghost use Rattle.std.specs.Prelude.{◌≡◌, ◌≤◌, ℕ, List, IsTrue, Option, [], ◌∷◌, map, length, is_some, option_copied, OnOk, IfOk, OnErr, IsOk, Ok, IfErr};
+ghost use Rattle.std.specs.Prelude.{◌≡◌, ◌≤◌, ℕ, List, IsTrue, Option, None, [], ◌∷◌, map, length, is_some, option_copied, OnOk, IfOk, OnErr, IsOk, Ok};
 ghost use Rattle.std.specs.Option.{option_map};
-ghost use Rattle.std.specs.BTreeMap.{IsOrdered};
-ghost use Rattle.std.specs.Cmp.Lexicographic.{slice_cmp};
 ghost use Rattle.std.specs.FinMap as finmap;
-ghost use Rattle.std.specs.Ordering.{nat_cmp};
-ghost use Rattle.sg_words.specs.Writing.{Writes};
 ghost use Rattle.sg_ops.specs.Table.{Table as Operations, table_of};
 ghost use Rattle.sg_model.specs.Objects as plain;
 ghost use Rattle.sg_model.specs.Verb.Op.{On, Names};
@@ -12,118 +8,35 @@ ghost use Rattle.sg_model.specs.Verb.Reply.{Done, Several};
 ghost use Rattle.sg_model.specs.Verb.Verb.{Keys};
 ghost use Rattle.sg_model.specs.SaidReplies.{said_outcome};
 ghost use Rattle.sg_plain.specs.Replies.{shown_keys};
-ghost use Rattle.sg_plain.specs.Shown.{shown, objects_of};
-ghost use Rattle.sg_plain.specs.Hand.{with_hand, IsPlaced, present_in};
+ghost use Rattle.sg_plain.specs.Shown.{shown};
 ghost use Rattle.sg_model.specs.SaidOps.{said_op, verb_of, name_of};
 ghost use Rattle.sg_model.specs.TouchList.{shown_touches};
 ghost use Rattle.sg_model.specs.Touches.{touches, touch_of, to_read, to_write, further};
 ghost use Rattle.sg_model.specs.Touches.Part.{Kind};
 ghost use Rattle.sg_model.specs.Touches.Region.{Just, Everything};
-ghost use Rattle.sg_model.specs.Step.{on, step, IsInPlace, GrowsBy, Refuses};
-ghost use Rattle.sg_model.specs.Undo.{undo_on, note_of_op};
-ghost use Rattle.sg_lines.specs.Summed.{summary_of, summary_of_all};
-ghost use Rattle.sg_lines.specs.Text.{text_of};
-ghost use Rattle.sg_plain.specs.Undone.{undo_in};
+ghost use Rattle.sg_model.specs.Step.{on, step, put_at, IsInPlace, GrowsBy, Refuses};
+ghost use Rattle.sg_model.specs.Undo.{undo, undo_on, undo_all_on, note_of_op, note_object};
+ghost use Rattle.sg_plain.specs.Undone.{shown_undo, shown_noted, undo_in};
 
 use crate::array::Array;
-use crate::back::{drop_places, make_all_ready, put_new, take_all_back};
 use crate::blob::Blob;
 use crate::changes::Changes;
-use crate::hand::{bring, find, held_keys, present, stow};
+use crate::keys::all_keys;
 use crate::object::Object;
-use crate::places::filled_keys;
 use crate::reach::{only_read, written};
-use crate::summary::summary_of;
 use crate::table::Table;
-use crate::text::{TextFault, write_objects};
-use crate::undo::Change;
-use sg_base::{Name, OutOfMemory, Sink};
-use sg_lines::{Summary, write_heading};
+use crate::undo::{Noted, Undo};
+use sg_base::{Name, OutOfMemory};
 use sg_model::{Key, Op, Reason, Reply, Resource, Touches};
 use sg_ops::Ops;
 use std::alloc::Global;
 use std::collections::BTreeMap;
 use std::marker::Model;
 
-// Does an operation that makes and drops no object, or answers the reason why it is refused.
-fn apply_in(
-    hand: &mut Option<(Name, Object)>,
-    map: &mut BTreeMap<Name, Option<Object>>,
-    alloc: Global,
-    ops: &Ops,
-    name: &Name,
-    op: &Op<'_>,
-    into: &mut [u8],
-) -> Result<Result<Reply, Reason>, OutOfMemory>
-    requires placed { IsPlaced hand.old map.old }
-    requires room { 8192 ≤ length into.old }
-    requires named { name.now ≡ name_of op.now }
-    requires in_place { IsInPlace (verb_of op.now) }
-    ensures placed { IsPlaced hand.new map.new }
-    ensures done { IfOk result (λ r. step (table_of record_meaning range_meaning ops.now) (with_hand hand.old (objects_of map.old.entries)) (said_op op.now) ≡ (said_outcome into.new r, with_hand hand.new (objects_of map.new.entries))) }
-    ensures err { OnErr result (with_hand hand.new (objects_of map.new.entries) ≡ with_hand hand.old (objects_of map.old.entries)) }
-    ensures memory { OnErr result (GrowsBy (verb_of op.now)) }
-    ensures cause { OnErr result (IsOk (step (table_of record_meaning range_meaning ops.now) (with_hand hand.old (objects_of map.old.entries)) (said_op op.now)).0) }
-{
-    bring(hand, map, name);
-    let Some((_, object)) = hand else {
-        return Ok(Err(Reason::NoObject));
-    };
-    object.attempt(alloc, ops, op, into)
-}
-
-// The same, and notes what takes it back.
-#[inline(always)]
-fn change_in(
-    hand: &mut Option<(Name, Object)>,
-    map: &mut BTreeMap<Name, Option<Object>>,
-    alloc: Global,
-    ops: &Ops,
-    name: &Name,
-    op: &Op<'_>,
-    into: &mut [u8],
-    changes: &mut Changes,
-) -> Result<Result<Reply, Reason>, OutOfMemory>
-    requires placed { IsPlaced hand.old map.old }
-    requires room { 8192 ≤ length into.old }
-    requires named { name.now ≡ name_of op.now }
-    requires in_place { IsInPlace (verb_of op.now) }
-    ensures placed { IsPlaced hand.new map.new }
-    ensures done { IfOk result (λ r. step (table_of record_meaning range_meaning ops.now) (with_hand hand.old (objects_of map.old.entries)) (said_op op.now) ≡ (said_outcome into.new r, with_hand hand.new (objects_of map.new.entries))) }
-    ensures noted { OnOk result ((other : List ℕ) (object : Option plain.Object) → undo_in changes.new other object ≡ undo_in changes.old other (undo_on other (note_of_op (table_of record_meaning range_meaning ops.now) (with_hand hand.old (objects_of map.old.entries)) (said_op op.now)) object)) }
-    ensures err { OnErr result (with_hand hand.new (objects_of map.new.entries) ≡ with_hand hand.old (objects_of map.old.entries)) }
-    ensures same { OnErr result ((other : List ℕ) (object : Option plain.Object) → undo_in changes.new other object ≡ undo_in changes.old other object) }
-    ensures cause { OnErr result (IsOk (step (table_of record_meaning range_meaning ops.now) (with_hand hand.old (objects_of map.old.entries)) (said_op op.now)).0) }
-{
-    bring(hand, map, name);
-    let Some((_, object)) = hand else {
-        return Ok(Err(Reason::NoObject));
-    };
-    changes.change(name, object, alloc, ops, op, into)
-}
-
-// What the objects come to that places and the hand have.
-fn summarize(hand: &Option<(Name, Object)>, map: &BTreeMap<Name, Option<Object>>) -> Summary
-    ensures summary { result ≡ summary_of_all (present_in hand.now map.now.entries) }
-    ensures ordered { IsOrdered (slice_cmp nat_cmp) map.now }
-{
-    let mut all = Summary::none();
-    'places: for (name, place) in map {
-        if let Some(object) = present(hand, name, place) {
-            all.add(summary_of(object));
-        }
-    }
-    all
-}
-
 /// Objects under names, which contracts see as a finite map.
 #[derive(Drop)]
 pub struct Objects {
-    // the object that an operation was done to last, which most operations are of, and its name; its
-    // place in `map` is there, so that it can be put back without memory
-    hand: Option<(Name, Object)>,
-    // a name may have a place with no object, where one can be put back without memory
-    map: BTreeMap<Name, Option<Object>>,
+    map: BTreeMap<Name, Object>,
 }
 
 impl Model for Objects {
@@ -141,36 +54,28 @@ impl Model for Objects {
     ghost coded = { code (coded_list coded_ℕ) object_code };
 
     ghost use Rattle.sg_plain.specs.Shown.{objects_of};
-    ghost use Rattle.sg_plain.specs.Hand.{with_hand, IsPlaced};
 
-    ghost view = { λ a. with_hand a.hand (objects_of a.map.entries) };
-
-    ghost invariant = { λ a. IsPlaced a.hand a.map };
+    ghost view = { λ a. objects_of a.map.entries };
 }
 
 impl Objects {
     ghost use Rattle.sg_model.specs.Step.{Grows, is_changing, make_array, discard};
-    ghost use Rattle.std.specs.Prelude.{IsSome};
-    ghost use Rattle.sg_model.specs.Verb.Verb.{Discard};
-    ghost use Rattle.sg_model.specs.Undo.{note_object};
-    ghost use Rattle.sg_plain.specs.Undone.{Makes, MakesOrDrops};
+    ghost use Rattle.sg_plain.specs.Whole.{MakesOrDrops};
 
     /// No objects. Takes no memory.
     pub fn empty(alloc: Global) -> Objects
         ensures { result ≡ finmap.empty }
     {
         Objects {
-            hand: None,
             map: BTreeMap::new(alloc),
         }
     }
 
     // The object with this name.
-    #[inline(always)]
     fn get(&self, name: &Name) -> Option<&Object>
         ensures { option_map shown (option_copied result) ≡ finmap.get self.now name.now }
     {
-        find(&self.hand, &self.map, name)
+        self.map.get(name)
     }
 
     // Whether there is an object with this name.
@@ -185,25 +90,17 @@ impl Objects {
         ensures ok { OnOk result (self.new ≡ finmap.insert self.old name (shown object)) }
         ensures err { OnErr result (self.new ≡ self.old) }
     {
-        stow(&mut self.hand, &mut self.map);
-        put_new(&mut self.map, name, object)
+        match self.map.insert(name, object) {
+            Ok(_) => Ok(()),
+            Err(_) => Err(OutOfMemory),
+        }
     }
 
     // Takes the object with a name away. Takes no memory.
     fn discard(&mut self, name: Name)
         ensures { self.new ≡ finmap.remove self.old name }
     {
-        stow(&mut self.hand, &mut self.map);
         drop(self.map.remove(&name));
-    }
-
-    // Takes the object with a name away, and gives it. Takes no memory.
-    fn take_out(&mut self, name: Name) -> Option<Object>
-        ensures there { option_map shown result ≡ finmap.get self.old name }
-        ensures after { self.new ≡ finmap.remove self.old name }
-    {
-        stow(&mut self.hand, &mut self.map);
-        self.map.remove(&name).flatten()
     }
 
     // Why an operation on an object that is there would be refused.
@@ -295,34 +192,7 @@ impl Objects {
     pub fn list(&self, alloc: Global) -> Result<Vec<Name>, OutOfMemory>
         ensures { IfOk result (λ names. (t : Operations) → step t self.now Names ≡ (Ok (Several names.items), self.now)) }
     {
-        let Some((held, _)) = &self.hand else {
-            return filled_keys(alloc, &self.map);
-        };
-        held_keys(alloc, &self.map, *held)
-    }
-
-    /// Writes the objects by the bytes of their names, each with its contents, and how many they are: the bytes that
-    /// `specs/Text.antt` defines. It takes no memory.
-    ///
-    /// Where the sink fails, it took a front of these bytes, and nothing more is written.
-    pub fn write_text<K: Sink>(&self, out: &mut K) -> Result<(), TextFault>
-        ensures text { Writes (K.taken out.old) (text_of self.now) (K.taken out.new) (K.faults out.old) (K.faults out.new) result }
-        ensures fault { IfErr result (λ e. e ≡ TextFault.Sink) }
-    {
-        let Ok(count) = write_objects(&self.hand, &self.map, out) else {
-            return Err(TextFault::Sink);
-        };
-        match write_heading(b"objects", b"", None, count as u64, out) {
-            Ok(()) => Ok(()),
-            Err(_) => Err(TextFault::Sink),
-        }
-    }
-
-    /// How many objects there are, how many items, entries and bytes of blobs they have, and the sum of all bytes. It takes no memory.
-    pub fn summary(&self) -> Summary
-        ensures { result ≡ summary_of self.now }
-    {
-        summarize(&self.hand, &self.map)
+        all_keys(alloc, &self.map)
     }
 
     // Puts what an operation on an object that is there touches in the place of other touches.
@@ -365,15 +235,6 @@ impl Objects {
         ensures { shown_touches into.new ≡ touches self.now (On name Keys) }
     {
         self.reach_keys(name, into);
-    }
-
-    /// Puts what the names of all objects touch in the place of other touches. It takes no memory.
-    #[tactic(auto, unfolding(sg_model::specs::Touches::touches))]
-    pub fn list_touches(&self, into: &mut Touches)
-        ensures { shown_touches into.new ≡ touches self.now Names }
-    {
-        into.clear();
-        into.push(only_read(Resource::Names));
     }
 
     /// Puts what an operation touches in the place of other touches. It takes no memory.
@@ -458,6 +319,29 @@ impl Objects {
         }
     }
 
+    // Does an operation that makes and drops no object, or answers the reason why it is refused.
+    fn apply_in(
+        &mut self,
+        alloc: Global,
+        ops: &Ops,
+        name: &Name,
+        op: &Op<'_>,
+        into: &mut [u8],
+    ) -> Result<Result<Reply, Reason>, OutOfMemory>
+        requires room { 8192 ≤ length into.old }
+        requires named { name.now ≡ name_of op.now }
+        requires in_place { IsInPlace (verb_of op.now) }
+        ensures done { IfOk result (λ r. step (table_of record_meaning range_meaning ops.now) self.old (said_op op.now) ≡ (said_outcome into.new r, self.new)) }
+        ensures err { OnErr result (self.new ≡ self.old) }
+        ensures memory { OnErr result (GrowsBy (verb_of op.now)) }
+        ensures cause { OnErr result (IsOk (step (table_of record_meaning range_meaning ops.now) self.old (said_op op.now)).0) }
+    {
+        let Some(object) = self.map.get_mut(name) else {
+            return Ok(Err(Reason::NoObject));
+        };
+        object.attempt(alloc, ops, op, into)
+    }
+
     /// Does an operation, and answers its reply or the reason why it is refused. `Bytes(n)` says
     /// that the first n bytes of `into` are the answer. A refused operation changes nothing.
     ///
@@ -493,126 +377,18 @@ impl Objects {
             | Op::Write { .. }
             | Op::Read { .. }
             | Op::Size { .. }
-            | Op::Paint { .. } => apply_in(
-                &mut self.hand,
-                &mut self.map,
-                alloc,
-                ops,
-                &op.name(),
-                op,
-                into,
-            ),
+            | Op::Paint { .. } => self.apply_in(alloc, ops, &op.name(), op, into),
         }
     }
 
-    // Makes an object, where that isn't refused, and notes it.
-    fn make_noted(
-        &mut self,
-        alloc: Global,
-        ops: &Ops,
-        op: &Op<'_>,
-        changes: &mut Changes,
-    ) -> Result<(), OutOfMemory>
-        requires accepted { IsOk (step (table_of record_meaning range_meaning ops.now) self.old (said_op op.now)).0 }
-        requires makes { Makes (verb_of op.now) }
-        ensures done { OnOk result (step (table_of record_meaning range_meaning ops.now) self.old (said_op op.now) ≡ (Ok Done, self.new)) }
-        ensures noted { OnOk result ((name : List ℕ) (object : Option plain.Object) → undo_in changes.new name object ≡ undo_in changes.old name (undo_on name (note_of_op (table_of record_meaning range_meaning ops.now) self.old (said_op op.now)) object)) }
-        ensures err { OnErr result (self.new ≡ self.old) }
-        ensures same { OnErr result ((name : List ℕ) (object : Option plain.Object) → undo_in changes.new name object ≡ undo_in changes.old name object) }
+    // What takes back an operation that isn't refused.
+    fn undo_of(&self, alloc: Global, op: &Op<'_>) -> Result<Undo, OutOfMemory>
+        requires { (t : Operations) × IsOk (on t (verb_of op.now) (finmap.get self.now (name_of op.now))).0 }
+        ensures { IfOk result (λ undo. shown_undo undo ≡ note_object (verb_of op.now) (finmap.get self.now (name_of op.now))) }
     {
-        let name = op.name();
-        let Ok(()) = changes.make_place(alloc, name) else {
-            return Err(OutOfMemory);
-        };
-        let Ok(()) = self.perform(alloc, op) else {
-            return Err(OutOfMemory);
-        };
-        changes.add(name, Change::Made);
-        Ok(())
-    }
-
-    // Drops an object that is there, and notes it.
-    fn drop_noted(
-        &mut self,
-        alloc: Global,
-        name: Name,
-        changes: &mut Changes,
-    ) -> Result<(), OutOfMemory>
-        requires { IsSome (finmap.get self.old name) }
-        ensures done { OnOk result (self.new ≡ finmap.remove self.old name) }
-        ensures noted { OnOk result ((other : List ℕ) (object : Option plain.Object) → undo_in changes.new other object ≡ undo_in changes.old other (undo_on other (name, note_object Discard (finmap.get self.old name)) object)) }
-        ensures err { OnErr result (self.new ≡ self.old) }
-        ensures same { OnErr result ((other : List ℕ) (object : Option plain.Object) → undo_in changes.new other object ≡ undo_in changes.old other object) }
-    {
-        let Ok(()) = changes.make_place(alloc, name) else {
-            return Err(OutOfMemory);
-        };
-        let Some(object) = self.take_out(name) else {
-            unreachable!();
-        };
-        changes.add(name, Change::Dropped(object));
-        Ok(())
-    }
-
-    // Makes or drops an object, where that isn't refused, and notes it.
-    fn perform_noted(
-        &mut self,
-        alloc: Global,
-        ops: &Ops,
-        op: &Op<'_>,
-        changes: &mut Changes,
-    ) -> Result<(), OutOfMemory>
-        requires whole { MakesOrDrops (verb_of op.now) }
-        requires accepted { IsOk (step (table_of record_meaning range_meaning ops.now) self.old (said_op op.now)).0 }
-        ensures done { OnOk result (step (table_of record_meaning range_meaning ops.now) self.old (said_op op.now) ≡ (Ok Done, self.new)) }
-        ensures noted { OnOk result ((name : List ℕ) (object : Option plain.Object) → undo_in changes.new name object ≡ undo_in changes.old name (undo_on name (note_of_op (table_of record_meaning range_meaning ops.now) self.old (said_op op.now)) object)) }
-        ensures err { OnErr result (self.new ≡ self.old) }
-        ensures same { OnErr result ((name : List ℕ) (object : Option plain.Object) → undo_in changes.new name object ≡ undo_in changes.old name object) }
-    {
-        match *op {
-            Op::MakeArray { .. } | Op::MakeTable { .. } | Op::MakeBlob { .. } => {
-                self.make_noted(alloc, ops, op, changes)
-            }
-            Op::Discard { name } => self.drop_noted(alloc, name, changes),
-            Op::Push { .. }
-            | Op::Pop { .. }
-            | Op::Set { .. }
-            | Op::Get { .. }
-            | Op::Len { .. }
-            | Op::Apply { .. }
-            | Op::Put { .. }
-            | Op::Del { .. }
-            | Op::Find { .. }
-            | Op::Write { .. }
-            | Op::Read { .. }
-            | Op::Size { .. }
-            | Op::Paint { .. } => unreachable!(),
-        }
-    }
-
-    // Makes or drops an object and notes it, or answers the reason why not.
-    #[inline(never)]
-    #[tactic(auto, using(crate::proofs::Steps::refused, crate::proofs::Noting::refused_notes))]
-    fn change_whole(
-        &mut self,
-        alloc: Global,
-        ops: &Ops,
-        op: &Op<'_>,
-        changes: &mut Changes,
-    ) -> Result<Result<Reply, Reason>, OutOfMemory>
-        requires { MakesOrDrops (verb_of op.now) }
-        ensures done { IfOk result (λ r. (bytes : List ℕ) → step (table_of record_meaning range_meaning ops.now) self.old (said_op op.now) ≡ (said_outcome bytes r, self.new)) }
-        ensures noted { OnOk result ((name : List ℕ) (object : Option plain.Object) → undo_in changes.new name object ≡ undo_in changes.old name (undo_on name (note_of_op (table_of record_meaning range_meaning ops.now) self.old (said_op op.now)) object)) }
-        ensures err { OnErr result (self.new ≡ self.old) }
-        ensures same { OnErr result ((name : List ℕ) (object : Option plain.Object) → undo_in changes.new name object ≡ undo_in changes.old name object) }
-        ensures cause { OnErr result (IsOk (step (table_of record_meaning range_meaning ops.now) self.old (said_op op.now)).0) }
-    {
-        if let Some(reason) = self.refusal(ops, op) {
-            return Ok(Err(reason));
-        }
-        match self.perform_noted(alloc, ops, op, changes) {
-            Ok(()) => Ok(Ok(Reply::Done)),
-            Err(fault) => Err(fault),
+        match self.get(&op.name()) {
+            None => Ok(Undo::Made),
+            Some(object) => object.undo_of(alloc, op),
         }
     }
 
@@ -620,7 +396,6 @@ impl Objects {
     ///
     /// After `OutOfMemory`, which comes only for an operation that would have got a reply, the objects
     /// and the notes are unchanged.
-    #[inline(always)]
     pub fn change(
         &mut self,
         alloc: Global,
@@ -637,59 +412,96 @@ impl Objects {
         ensures same { OnErr result ((name : List ℕ) (object : Option plain.Object) → undo_in changes.new name object ≡ undo_in changes.old name object) }
         ensures cause { OnErr result (IsOk (step (table_of record_meaning range_meaning ops.now) self.old (said_op op.now)).0) }
     {
-        match *op {
-            Op::MakeArray { .. }
-            | Op::MakeTable { .. }
-            | Op::MakeBlob { .. }
-            | Op::Discard { .. } => self.change_whole(alloc, ops, op, changes),
-            Op::Push { .. }
-            | Op::Pop { .. }
-            | Op::Set { .. }
-            | Op::Get { .. }
-            | Op::Len { .. }
-            | Op::Apply { .. }
-            | Op::Put { .. }
-            | Op::Del { .. }
-            | Op::Find { .. }
-            | Op::Write { .. }
-            | Op::Read { .. }
-            | Op::Size { .. }
-            | Op::Paint { .. } => {
-                change_in(
-                    &mut self.hand,
-                    &mut self.map,
-                    alloc,
-                    ops,
-                    &op.name(),
-                    op,
-                    into,
-                    changes,
-                )
-            }
+        if let Some(reason) = self.refusal(ops, op) {
+            return Ok(Err(reason));
         }
+        let Ok(undo) = self.undo_of(alloc, op) else {
+            return Err(OutOfMemory);
+        };
+        if changes.notes.reserve(1).is_err() {
+            return Err(OutOfMemory);
+        }
+        match self.apply(alloc, ops, op, into) {
+            Ok(Ok(reply)) => {
+                let name = op.name();
+                changes.notes.push_reserved(Noted { name, undo });
+                Ok(Ok(reply))
+            }
+            Ok(Err(reason)) => Ok(Err(reason)),
+            Err(fault) => Err(fault),
+        }
+    }
+
+    // The same objects once more.
+    fn copy(&self) -> Result<Objects, OutOfMemory>
+        ensures { IfOk result (λ copy. copy ≡ self.now) }
+    {
+        match self.map.clone() {
+            Ok(map) => Ok(Objects { map }),
+            Err(_) => Err(OutOfMemory),
+        }
+    }
+
+    // Takes back what a note says of an object that is there. After `OutOfMemory` some of it may be done.
+    fn undo_there(&mut self, alloc: Global, noted: &Noted) -> Result<(), OutOfMemory>
+        requires { undo (shown_undo noted.now.undo) None ≡ None }
+        ensures { OnOk result (self.new ≡ put_at self.old noted.now.name (undo (shown_undo noted.now.undo) (finmap.get self.old noted.now.name))) }
+    {
+        let Some(object) = self.map.get_mut(&noted.name) else {
+            return Ok(());
+        };
+        object.undo(alloc, &noted.undo)
+    }
+
+    // Takes back what a note says. After `OutOfMemory` some of it may be done.
+    fn undo_one(&mut self, alloc: Global, noted: &Noted) -> Result<(), OutOfMemory>
+        ensures { OnOk result (self.new ≡ put_at self.old noted.now.name (undo (shown_undo noted.now.undo) (finmap.get self.old noted.now.name))) }
+    {
+        match &noted.undo {
+            Undo::Made => {
+                self.discard(noted.name);
+                Ok(())
+            }
+            Undo::Dropped(object) => match object.clone() {
+                Ok(object) => self.put(noted.name, object),
+                Err(_) => Err(OutOfMemory),
+            },
+            Undo::Nothing
+            | Undo::Pushed
+            | Undo::Popped(_)
+            | Undo::Set { .. }
+            | Undo::New(_)
+            | Undo::Value { .. }
+            | Undo::Bytes { .. } => self.undo_there(alloc, noted),
+        }
+    }
+
+    // Takes back what notes say, the last one first. After `OutOfMemory` some of it may be done.
+    fn undo_all(&mut self, alloc: Global, notes: &[Noted]) -> Result<(), OutOfMemory>
+        ensures { OnOk result ((name : List ℕ) → finmap.get self.new name ≡ undo_all_on name (map shown_noted notes.now) (finmap.get self.old name)) }
+    {
+        let mut left = notes.len();
+        'left: while left > 0 {
+            left -= 1;
+            self.undo_one(alloc, &notes[left])?;
+        }
+        Ok(())
     }
 
     /// Takes back all that `changes` notes, and then it notes nothing.
     /// After `OutOfMemory` the objects and the notes are unchanged.
+    ///
+    /// It is done to a copy of the objects, which takes their place once all is taken back.
     pub fn take_back(&mut self, alloc: Global, changes: &mut Changes) -> Result<(), OutOfMemory>
         ensures back { OnOk result ((name : List ℕ) → finmap.get self.new name ≡ undo_in changes.old name (finmap.get self.old name)) }
         ensures none { OnOk result ((name : List ℕ) (object : Option plain.Object) → undo_in changes.new name object ≡ object) }
         ensures err { OnErr result (self.new ≡ self.old) }
         ensures same { OnErr result ((name : List ℕ) (object : Option plain.Object) → undo_in changes.new name object ≡ undo_in changes.old name object) }
     {
-        let Ok(()) = changes.gather() else {
-            return Err(OutOfMemory);
-        };
-        stow(&mut self.hand, &mut self.map);
-        match make_all_ready(&mut self.map, alloc, &mut changes.others) {
-            Ok(()) => {
-                take_all_back(&mut self.map, &mut changes.others);
-                Ok(())
-            }
-            Err(fault) => {
-                drop_places(&mut self.map, &changes.others);
-                Err(fault)
-            }
-        }
+        let mut back = self.copy()?;
+        back.undo_all(alloc, &changes.notes)?;
+        *self = back;
+        changes.notes.clear();
+        Ok(())
     }
 }

@@ -1,7 +1,6 @@
-use Rattle.std.proofs.Common.{ap, ◌∙◌}
+use Rattle.std.proofs.Common.{ap}
 use Rattle.sg_plain.specs.Shown.{objects_of}
-use Rattle.sg_plain.proofs.Standing.{there_empty}
 use Rattle.sg_plain.proofs.objects.Objects.empty.Goals as goal
 
 pub returns : goal.returns
-returns c = ap objects_of c.new.ensures.empty ∙ there_empty
+returns c = ap objects_of c.new.ensures.empty
