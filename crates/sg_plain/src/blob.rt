@@ -1,4 +1,4 @@
-ghost use Rattle.std.specs.Prelude.{◌≡◌, ◌+◌, ◌≤◌, ◌<◌, [], length, take, drop, OnOk, OnErr, IsOk, IsTrue, is_some, IfOk, IfSome, Ok, Err, Some, ◌++◌, map};
+ghost use Rattle.std.specs.Prelude.{◌≡◌, ◌+◌, ◌≤◌, ◌<◌, [], length, take, OnOk, OnErr, IsOk, IsTrue, is_some, IfOk, Ok, Err, Some, ◌++◌, map};
 ghost use Rattle.sg_ops.specs.Table.{table_of, range_at, rendered};
 ghost use Rattle.sg_plain.specs.Undone.{shown_undo};
 ghost use Rattle.sg_model.specs.Objects.Object.{Blob as as_object};

@@ -1,9 +1,5 @@
-ghost use Rattle.std.specs.Prelude.{◌≡◌, ◌≤◌, ◌%◌, ◌^◌, List, ℕ, length, is_some, IsSome, option_copied, IfSome, IfOk, OnOk, OnErr, IsOk, MatchOption, Ok, Err, None, Some, vec_len, ◌++◌, map};
-ghost use Rattle.std.specs.BTreeMap.{IsOrdered};
-ghost use Rattle.std.specs.Cmp.Lexicographic.{slice_cmp};
+ghost use Rattle.std.specs.Prelude.{◌≡◌, ◌≤◌, List, ℕ, length, is_some, option_copied, IfSome, IfOk, OnOk, OnErr, IsOk, MatchOption, Ok, Err, None, Some, vec_len, ◌++◌, map};
 ghost use Rattle.std.specs.FinMap as finmap;
-ghost use Rattle.std.specs.List.{flat_map, sum_by};
-ghost use Rattle.std.specs.Ordering.{nat_cmp};
 ghost use Rattle.sg_ops.specs.Table.{fresh_table};
 ghost use Rattle.sg_model.specs.Keys.{key_checked};
 ghost use Rattle.sg_model.specs.Objects.Object.{Table as as_object};

@@ -1,6 +1,6 @@
 // Each verb on the objects of a space at the limits that its definition has, with each reason for which it is refused.
-use Says::*;
 use crate::rows::{Came, DONE, HIGHEST, NONE, ONE, Trial};
+use Says::*;
 use sg_base::Name;
 use sg_model::{Op, Reason, Reply};
 use sg_objects::{ObjFault, needs_of};
