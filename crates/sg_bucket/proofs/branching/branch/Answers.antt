@@ -73,3 +73,12 @@ returns-clause-few_told g c = λ told b h.
     let before = c.loop-passed.invariant.few in
     let broken = c.broken.ensures.writes_none in
     omega arith
+
+pub returns-in_err-copied-clause-later : goal.returns-in_err-copied-clause-later
+returns-in_err-copied-clause-later g c = g.met.P.PageSpace.later_then _ _ _ _ c.loop-passed.invariant.later c.copy_part.ensures.later
+
+pub returns-then-copied-eq0-clause-later : goal.returns-then-copied-eq0-clause-later
+returns-then-copied-eq0-clause-later g c = g.met.P.PageSpace.later_then _ _ _ _ c.loop-passed.invariant.later c.copy_part.ensures.later
+
+pub returns-clause-later : goal.returns-clause-later
+returns-clause-later g c = g.met.P.PageSpace.later_then _ _ _ _ c.loop-passed.invariant.later (c.broken.ensures.later _)

@@ -64,3 +64,6 @@ pub returns-in_err-tail-in-Some-clause-later : goal.returns-in_err-tail-in-Some-
 returns-in_err-tail-in-Some-clause-later g c =
     let then = g.met.P.PageSpace.later_then _ in
     then _ _ _ c.loop-slot.invariant.later (then _ _ _ (c.copy_entry.ensures.later _) c.extend.ensures.later)
+
+pub returns-in_err-copy_entry-clause-later : goal.returns-in_err-copy_entry-clause-later
+returns-in_err-copy_entry-clause-later g c = g.met.P.PageSpace.later_then _ _ _ _ c.loop-slot.invariant.later (c.copy_entry.ensures.later _)

@@ -33,3 +33,16 @@ returns-in_ok-take_out-in-Some-clause-did g c =
     let shows = g.met.P.PageSpace.told_shows _ told in
     let place = found_place b c.args.key.now c.in-Some.is (c.in_ok-seek.ensures.read shows b h) in
     del_takes h sound place (held_value (still_linked kept shows h) (place_stands place) (c.in_ok-held-in-Some.ensures.read (kept.shows shows))) out)
+
+pub returns-in_err-held-in-Some-clause-later : goal.returns-in_err-held-in-Some-clause-later
+returns-in_err-held-in-Some-clause-later g c = g.met.P.PageSpace.later_then _ _ _ _ (c.seek.ensures.later _) (c.held_at.ensures.later _)
+
+pub returns-in_err-take_out-in-Some-clause-later : goal.returns-in_err-take_out-in-Some-clause-later
+returns-in_err-take_out-in-Some-clause-later g c =
+    let then = g.met.P.PageSpace.later_then _ in
+    then _ _ _ (c.seek.ensures.later _) (then _ _ _ (c.held_at.ensures.later _) c.take_out.ensures.later)
+
+pub returns-in_ok-take_out-in-Some-clause-later : goal.returns-in_ok-take_out-in-Some-clause-later
+returns-in_ok-take_out-in-Some-clause-later g c =
+    let then = g.met.P.PageSpace.later_then _ in
+    then _ _ _ (c.seek.ensures.later _) (then _ _ _ (c.held_at.ensures.later _) c.take_out.ensures.later)

@@ -56,3 +56,15 @@ returns-in_ok-old-in-Some-clause-did g c =
           (λ told b b' h k t r. put_replaces r (front_is c.spell-size.result c.spell-size.new.into (record { key = c.args.key.now; value = c.args.value.now }) (record { key = c.requires.key; value = c.requires.value }) c.spell-size.ensures.spelled) h k.sound (found_place b c.args.key.now c.in-Some.is (c.in_ok-seek.ensures.read (g.met.P.PageSpace.told_shows _ told) b h)));
       keeps = λ e. absurd (some_is_none _ e);
     }
+
+pub returns-in_err-add-in-None-clause-later : goal.returns-in_err-add-in-None-clause-later
+returns-in_err-add-in-None-clause-later g c = g.met.P.PageSpace.later_then _ _ _ _ (c.seek.ensures.later _) c.add.ensures.later
+
+pub returns-in_ok-add-in-None-clause-later : goal.returns-in_ok-add-in-None-clause-later
+returns-in_ok-add-in-None-clause-later g c = g.met.P.PageSpace.later_then _ _ _ _ (c.seek.ensures.later _) c.add.ensures.later
+
+pub returns-in_err-old-in-Some-clause-later : goal.returns-in_err-old-in-Some-clause-later
+returns-in_err-old-in-Some-clause-later g c = g.met.P.PageSpace.later_then _ _ _ _ (c.seek.ensures.later _) c.replace.ensures.later
+
+pub returns-in_ok-old-in-Some-clause-later : goal.returns-in_ok-old-in-Some-clause-later
+returns-in_ok-old-in-Some-clause-later g c = g.met.P.PageSpace.later_then _ _ _ _ (c.seek.ensures.later _) c.replace.ensures.later

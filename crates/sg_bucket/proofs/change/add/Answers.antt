@@ -97,3 +97,29 @@ broken-requires g c = λ told.
     let end = c.loop-passed-test.false in
     let count = c.pages-passed-end.ensures in
     absurd (omega arith)
+
+pub returns-in_err-slot-clause-later : goal.returns-in_err-slot-clause-later
+returns-in_err-slot-clause-later g c = g.met.P.PageSpace.later_then _ _ _ _ c.loop-passed.invariant.later (c.room_on.ensures.later _)
+
+pub returns-in_err-put_at-in-At-clause-later : goal.returns-in_err-put_at-in-At-clause-later
+returns-in_err-put_at-in-At-clause-later g c =
+    let then = g.met.P.PageSpace.later_then _ in
+    then _ _ _ c.loop-passed.invariant.later (then _ _ _ (c.room_on.ensures.later _) c.put_at.ensures.later)
+
+pub returns-in-At-clause-later : goal.returns-in-At-clause-later
+returns-in-At-clause-later g c =
+    let then = g.met.P.PageSpace.later_then _ in
+    then _ _ _ c.loop-passed.invariant.later (then _ _ _ (c.room_on.ensures.later _) c.put_at.ensures.later)
+
+pub returns-in_err-append-in-Full-clause-later : goal.returns-in_err-append-in-Full-clause-later
+returns-in_err-append-in-Full-clause-later g c =
+    let then = g.met.P.PageSpace.later_then _ in
+    then _ _ _ c.loop-passed.invariant.later (then _ _ _ (c.room_on.ensures.later _) c.append.ensures.later)
+
+pub returns-then-next-eq0-clause-later : goal.returns-then-next-eq0-clause-later
+returns-then-next-eq0-clause-later g c =
+    let then = g.met.P.PageSpace.later_then _ in
+    then _ _ _ c.loop-passed.invariant.later (then _ _ _ (c.room_on.ensures.later _) c.append.ensures.later)
+
+pub returns-clause-later : goal.returns-clause-later
+returns-clause-later g c = g.met.P.PageSpace.later_then _ _ _ _ c.loop-passed.invariant.later (c.broken.ensures.later _)

@@ -12,3 +12,9 @@ change-requires-clause-can g c = λ told.
 
 pub returns-clause-did : goal.returns-clause-did
 returns-clause-did g c = append_did c.requires.cell c.in_ok-p.ensures.did c.in_ok-change.ensures.did
+
+pub returns-in_err-change-clause-later : goal.returns-in_err-change-clause-later
+returns-in_err-change-clause-later g c = g.met.P.PageSpace.later_then _ _ _ _ c.take_page_with.ensures.later c.change.ensures.later
+
+pub returns-clause-later : goal.returns-clause-later
+returns-clause-later g c = g.met.P.PageSpace.later_then _ _ _ _ c.take_page_with.ensures.later c.change.ensures.later

@@ -15,3 +15,9 @@ free_page-requires g c = λ told.
 
 pub returns-clause-did : goal.returns-clause-did
 returns-clause-did g c = cut_did c.in_ok-change.ensures.did c.in_ok-free_page.ensures.did
+
+pub returns-in_err-free_page-clause-later : goal.returns-in_err-free_page-clause-later
+returns-in_err-free_page-clause-later g c = g.met.P.PageSpace.later_then _ _ _ _ c.change.ensures.later (c.free_page.ensures.later _)
+
+pub returns-clause-later : goal.returns-clause-later
+returns-clause-later g c = g.met.P.PageSpace.later_then _ _ _ _ c.change.ensures.later (c.free_page.ensures.later _)

@@ -49,3 +49,17 @@ pub returns-clause-later : goal.returns-clause-later
 returns-clause-later g c =
     let then = g.met.P.PageSpace.later_then _ in
     then _ _ _ (c.held_at.ensures.later _) (then _ _ _ c.add.ensures.later c.take_out.ensures.later)
+
+pub returns-in_err-set_over-clause-later : goal.returns-in_err-set_over-clause-later
+returns-in_err-set_over-clause-later g c = g.met.P.PageSpace.later_then _ _ _ _ (c.held_at.ensures.later _) c.set_over.ensures.later
+
+pub returns-then-cell-held-clause-later : goal.returns-then-cell-held-clause-later
+returns-then-cell-held-clause-later g c = g.met.P.PageSpace.later_then _ _ _ _ (c.held_at.ensures.later _) c.set_over.ensures.later
+
+pub returns-in_err-add-clause-later : goal.returns-in_err-add-clause-later
+returns-in_err-add-clause-later g c = g.met.P.PageSpace.later_then _ _ _ _ (c.held_at.ensures.later _) c.add.ensures.later
+
+pub returns-in_err-take_out-clause-later : goal.returns-in_err-take_out-clause-later
+returns-in_err-take_out-clause-later g c =
+    let then = g.met.P.PageSpace.later_then _ in
+    then _ _ _ (c.held_at.ensures.later _) (then _ _ _ c.add.ensures.later c.take_out.ensures.later)

@@ -45,3 +45,19 @@ returns-in_ok-cut-in-Some-clause-did g c =
     (λ told b b' b'' h k t r cut.
     let shows = g.met.P.PageSpace.told_shows _ (did.told told) in
     taken_out_cut h k r t.linked (cut_ready h k c.if-place-first.false r t.linked c.in-Some.is (still (λ (s : Space). HasAt s.pages.at c.args.place.page.0 (IsEmptied c.in_ok-emptied.field-0)) kept shows (c.in_ok-emptied.ensures.read shows))) cut)
+
+pub returns-in_err-emptied-clause-later : goal.returns-in_err-emptied-clause-later
+returns-in_err-emptied-clause-later g c = g.met.P.PageSpace.later_then _ _ _ _ c.remove_at.ensures.later (c.emptied.ensures.later _)
+
+pub returns-in-None-clause-later : goal.returns-in-None-clause-later
+returns-in-None-clause-later g c = g.met.P.PageSpace.later_then _ _ _ _ c.remove_at.ensures.later (c.emptied.ensures.later _)
+
+pub returns-in_err-cut-in-Some-clause-later : goal.returns-in_err-cut-in-Some-clause-later
+returns-in_err-cut-in-Some-clause-later g c =
+    let then = g.met.P.PageSpace.later_then _ in
+    then _ _ _ c.remove_at.ensures.later (then _ _ _ (c.emptied.ensures.later _) c.cut.ensures.later)
+
+pub returns-in_ok-cut-in-Some-clause-later : goal.returns-in_ok-cut-in-Some-clause-later
+returns-in_ok-cut-in-Some-clause-later g c =
+    let then = g.met.P.PageSpace.later_then _ in
+    then _ _ _ c.remove_at.ensures.later (then _ _ _ (c.emptied.ensures.later _) c.cut.ensures.later)

@@ -93,3 +93,19 @@ returns-clause-few_told g c = λ told b h.
     let before = c.loop-passed.invariant.few in
     let broken = c.broken.ensures.writes_none in
     omega arith
+
+pub returns-in_err-next-clause-later : goal.returns-in_err-next-clause-later
+returns-in_err-next-clause-later g c = λ t. g.met.P.PageSpace.later_then t _ _ _ (c.loop-passed.invariant.later t) (c.next_of.ensures.later t)
+
+pub returns-in_err-free_page-clause-later : goal.returns-in_err-free_page-clause-later
+returns-in_err-free_page-clause-later g c = λ t.
+    let then = g.met.P.PageSpace.later_then t in
+    then _ _ _ (c.loop-passed.invariant.later t) (then _ _ _ (c.next_of.ensures.later t) (c.free_page.ensures.later t))
+
+pub returns-then-next-eq0-clause-later : goal.returns-then-next-eq0-clause-later
+returns-then-next-eq0-clause-later g c = λ t.
+    let then = g.met.P.PageSpace.later_then t in
+    then _ _ _ (c.loop-passed.invariant.later t) (then _ _ _ (c.next_of.ensures.later t) (c.free_page.ensures.later t))
+
+pub returns-clause-later : goal.returns-clause-later
+returns-clause-later g c = λ t. g.met.P.PageSpace.later_then t _ _ _ (c.loop-passed.invariant.later t) (c.broken.ensures.later t)

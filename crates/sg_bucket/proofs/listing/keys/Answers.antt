@@ -61,3 +61,12 @@ pub returns-in_err-next-clause-quiet : goal.returns-in_err-next-clause-quiet
 returns-in_err-next-clause-quiet g c =
     let quiet = λ (e : c.in_err-next.field-0.0 ≡ Memory). c.in_err-next.ensures.quiet e ∙ c.loop-passed.invariant.quiet in
     search (rules, quiet)
+
+pub returns-in_err-next-clause-later : goal.returns-in_err-next-clause-later
+returns-in_err-next-clause-later g c = λ t. g.met.P.PageSpace.later_then t _ _ _ (c.loop-passed.invariant.later t) (c.gather.ensures.later t)
+
+pub returns-then-next-eq0-clause-later : goal.returns-then-next-eq0-clause-later
+returns-then-next-eq0-clause-later g c = λ t. g.met.P.PageSpace.later_then t _ _ _ (c.loop-passed.invariant.later t) (c.gather.ensures.later t)
+
+pub returns-clause-later : goal.returns-clause-later
+returns-clause-later g c = λ t. g.met.P.PageSpace.later_then t _ _ _ (c.loop-passed.invariant.later t) (c.broken.ensures.later t)

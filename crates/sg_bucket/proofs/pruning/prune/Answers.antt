@@ -74,3 +74,19 @@ returns-clause-few_told g c = λ told b h sound.
     let before = c.loop-passed.invariant.few in
     let broken = c.broken.ensures.writes_none in
     omega arith
+
+pub returns-in_err-next-clause-later : goal.returns-in_err-next-clause-later
+returns-in_err-next-clause-later g c = g.met.P.PageSpace.later_then _ _ _ _ c.loop-passed.invariant.later (c.next_of.ensures.later _)
+
+pub returns-in_err-before-clause-later : goal.returns-in_err-before-clause-later
+returns-in_err-before-clause-later g c =
+    let then = g.met.P.PageSpace.later_then _ in
+    then _ _ _ c.loop-passed.invariant.later (then _ _ _ (c.next_of.ensures.later _) c.prune_page.ensures.later)
+
+pub returns-then-next-eq0-clause-later : goal.returns-then-next-eq0-clause-later
+returns-then-next-eq0-clause-later g c =
+    let then = g.met.P.PageSpace.later_then _ in
+    then _ _ _ c.loop-passed.invariant.later (then _ _ _ (c.next_of.ensures.later _) c.prune_page.ensures.later)
+
+pub returns-clause-later : goal.returns-clause-later
+returns-clause-later g c = g.met.P.PageSpace.later_then _ _ _ _ c.loop-passed.invariant.later (c.broken.ensures.later _)

@@ -56,3 +56,11 @@ returns-clause-did g c =
     let most = c.loop-slot.auto.slot-end in
     let all : c.loop-slot.slot ≡ c.in_ok-seen.seen.slots = omega arith in
     strips_all (subst (λ (s : ℕ). Strips (g.P.PageSpace.view c.args.space.now) (g.P.PageSpace.view c.loop-slot.space) c.args.first.0 c.args.before.0 c.args.page.0 c.args.there s) all c.loop-slot.invariant.so_far) (λ t. c.in_ok-seen.ensures.read (g.met.P.PageSpace.told_shows _ t))
+
+pub returns-in_err-picked-clause-later : goal.returns-in_err-picked-clause-later
+returns-in_err-picked-clause-later g c = g.met.P.PageSpace.later_then _ _ _ _ c.loop-slot.invariant.later (c.is_picked.ensures.later _)
+
+pub returns-in_err-remove_at-clause-later : goal.returns-in_err-remove_at-clause-later
+returns-in_err-remove_at-clause-later g c =
+    let then = g.met.P.PageSpace.later_then _ in
+    then _ _ _ c.loop-slot.invariant.later (then _ _ _ (c.is_picked.ensures.later _) c.remove_at.ensures.later)

@@ -21,3 +21,9 @@ returns-in_ok-n-in-Some-clause-read g c = λ shows b h.
     let kept = c.in_ok-seek.ensures.kept in
     let copied = before (λ (s : Space). HasAt s.pages.at c.in-Some.place.page.0 (IsCopied c.in-Some.place.slot c.in_ok-n-in-Some.n c.copy_value.new.into)) kept shows (c.in_ok-n-in-Some.ensures.read (kept.shows shows)) in
     value_copied h (found_place b c.args.key.now c.in-Some.is (c.in_ok-seek.ensures.read shows b h.linked)) copied
+
+pub returns-in_err-n-in-Some-clause-later : goal.returns-in_err-n-in-Some-clause-later
+returns-in_err-n-in-Some-clause-later g c = λ t. g.met.P.PageSpace.later_then t _ _ _ (c.seek.ensures.later t) (c.copy_value.ensures.later t)
+
+pub returns-in_ok-n-in-Some-clause-later : goal.returns-in_ok-n-in-Some-clause-later
+returns-in_ok-n-in-Some-clause-later g c = λ t. g.met.P.PageSpace.later_then t _ _ _ (c.seek.ensures.later t) (c.copy_value.ensures.later t)

@@ -61,3 +61,15 @@ broken-requires g c = λ told.
     let end = c.loop-passed-test.false in
     let count = c.pages-passed-end.ensures in
     absurd (omega arith)
+
+pub returns-in_err-slot-clause-later : goal.returns-in_err-slot-clause-later
+returns-in_err-slot-clause-later g c = λ t. g.met.P.PageSpace.later_then t _ _ _ (c.loop-passed.invariant.later t) (c.look_for.ensures.later t)
+
+pub returns-in-Here-clause-later : goal.returns-in-Here-clause-later
+returns-in-Here-clause-later g c = λ t. g.met.P.PageSpace.later_then t _ _ _ (c.loop-passed.invariant.later t) (c.look_for.ensures.later t)
+
+pub returns-then-next-eq0-clause-later : goal.returns-then-next-eq0-clause-later
+returns-then-next-eq0-clause-later g c = λ t. g.met.P.PageSpace.later_then t _ _ _ (c.loop-passed.invariant.later t) (c.look_for.ensures.later t)
+
+pub returns-clause-later : goal.returns-clause-later
+returns-clause-later g c = λ t. g.met.P.PageSpace.later_then t _ _ _ (c.loop-passed.invariant.later t) (c.broken.ensures.later t)

@@ -23,3 +23,9 @@ returns-clause-did g c =
           let d = start.done told in
           (first_table c.in_ok-directory.directory.0 d.0 d.1, made (numbers_are _ no_numbers c.first.ensures refl refl refl) d.2 (took.pages there) (took.bands there), may_grow (took.keeps there) d.3 d.4);
     }
+
+pub returns-in_err-root-clause-later : goal.returns-in_err-root-clause-later
+returns-in_err-root-clause-later g c = g.met.P.PageSpace.later_then _ _ _ _ c.start.ensures.later c.take_root.ensures.later
+
+pub returns-clause-later : goal.returns-clause-later
+returns-clause-later g c = g.met.P.PageSpace.later_then _ _ _ _ c.start.ensures.later c.take_root.ensures.later

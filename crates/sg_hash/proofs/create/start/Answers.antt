@@ -55,3 +55,6 @@ pub returns-clause-later : goal.returns-clause-later
 returns-clause-later g c =
     let then = g.met.P.PageSpace.later_then _ in
     then _ _ _ c.make.ensures.later (then _ _ _ (c.make-2.ensures.later _) c.push.ensures.later)
+
+pub returns-in_err-first-clause-later : goal.returns-in_err-first-clause-later
+returns-in_err-first-clause-later g c = g.met.P.PageSpace.later_then _ _ _ _ c.make.ensures.later (c.make-2.ensures.later _)

@@ -34,3 +34,9 @@ returns-clause-did g c =
           };
       bands = λ told. did.bands (took.told told) ∙ took.bands told;
     }
+
+pub returns-in_err-change-clause-later : goal.returns-in_err-change-clause-later
+returns-in_err-change-clause-later g c = g.met.P.PageSpace.later_then _ _ _ _ c.take_page_with.ensures.later c.change.ensures.later
+
+pub returns-clause-later : goal.returns-clause-later
+returns-clause-later g c = g.met.P.PageSpace.later_then _ _ _ _ c.take_page_with.ensures.later c.change.ensures.later

@@ -140,3 +140,11 @@ returns-clause-few g c = λ told.
 
 pub returns-then-count-pages-clause-later : goal.returns-then-count-pages-clause-later
 returns-then-count-pages-clause-later g c = λ t. g.met.P.PageSpace.later_then t _ _ _ (c.read_root.ensures.later t) (c.broken.ensures.later t)
+
+pub returns-in_err-directory-clause-later : goal.returns-in_err-directory-clause-later
+returns-in_err-directory-clause-later g c = λ t. g.met.P.PageSpace.later_then t _ _ _ (c.read_root.ensures.later t) (c.directory_of.ensures.later t)
+
+pub returns-in_err-free_buckets-clause-later : goal.returns-in_err-free_buckets-clause-later
+returns-in_err-free_buckets-clause-later g c = λ t.
+    let then = g.met.P.PageSpace.later_then t in
+    then _ _ _ (c.read_root.ensures.later t) (then _ _ _ (c.directory_of.ensures.later t) (c.free_buckets.ensures.later t))

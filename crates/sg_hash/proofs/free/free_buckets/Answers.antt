@@ -109,3 +109,11 @@ returns-clause-few g c = λ told.
     let some = chain_take h.0.buckets c.loop-i.i in
     let all = few_chains h.0 (g.met.P.PageSpace.pages_exact _ told) h.1.built in
     omega arith
+
+pub returns-in_err-first-clause-later : goal.returns-in_err-first-clause-later
+returns-in_err-first-clause-later g c = λ t. g.met.P.PageSpace.later_then t _ _ _ (c.loop-i.invariant.later t) (c.bucket_at.ensures.later t)
+
+pub returns-in_err-free_all-clause-later : goal.returns-in_err-free_all-clause-later
+returns-in_err-free_all-clause-later g c = λ t.
+    let then = g.met.P.PageSpace.later_then t in
+    then _ _ _ (c.loop-i.invariant.later t) (then _ _ _ (c.bucket_at.ensures.later t) (c.free_all.ensures.later t))

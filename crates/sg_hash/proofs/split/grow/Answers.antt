@@ -76,3 +76,26 @@ returns-clause-did g c =
     did_after (λ t. g.met.P.PageSpace.told_shows _ t) all c.in_ok-split_next.ensures.did
     (λ told t h can. let shows = g.met.P.PageSpace.told_shows _ told in can_split c.in_ok-found.found all shows (c.in_ok-found.ensures.read shows _ t h.built.trunk) (due told t h) can)
     (λ told t t' h can s. split_grown (due told t h) s)
+
+pub returns-in_err-first-clause-later : goal.returns-in_err-first-clause-later
+returns-in_err-first-clause-later g c = g.met.P.PageSpace.later_then _ _ _ _ (c.read_root.ensures.later _) (c.bucket_at.ensures.later _)
+
+pub returns-in_err-pages-clause-later : goal.returns-in_err-pages-clause-later
+returns-in_err-pages-clause-later g c =
+    let then = g.met.P.PageSpace.later_then _ in
+    then _ _ _ (c.read_root.ensures.later _) (then _ _ _ (c.bucket_at.ensures.later _) (c.pages.ensures.later _))
+
+pub returns-then-pages-gt-MOST_SPLIT-clause-later : goal.returns-then-pages-gt-MOST_SPLIT-clause-later
+returns-then-pages-gt-MOST_SPLIT-clause-later g c =
+    let then = g.met.P.PageSpace.later_then _ in
+    then _ _ _ (c.read_root.ensures.later _) (then _ _ _ (c.bucket_at.ensures.later _) (c.pages.ensures.later _))
+
+pub returns-in_err-split_next-clause-later : goal.returns-in_err-split_next-clause-later
+returns-in_err-split_next-clause-later g c =
+    let then = g.met.P.PageSpace.later_then _ in
+    then _ _ _ (c.read_root.ensures.later _) (then _ _ _ (c.bucket_at.ensures.later _) (then _ _ _ (c.pages.ensures.later _) c.split_next.ensures.later))
+
+pub returns-clause-later : goal.returns-clause-later
+returns-clause-later g c =
+    let then = g.met.P.PageSpace.later_then _ in
+    then _ _ _ (c.read_root.ensures.later _) (then _ _ _ (c.bucket_at.ensures.later _) (then _ _ _ (c.pages.ensures.later _) c.split_next.ensures.later))

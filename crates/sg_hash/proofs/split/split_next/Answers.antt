@@ -199,3 +199,11 @@ returns-clause-few g c = λ told.
     let gone = c.prune.ensures.few_told then f.bucket b.linked (record { once = b.once; full = b.full }) in
     let end = c.set_root.ensures.few in
     omega arith
+
+pub returns-in_err-first-clause-later : goal.returns-in_err-first-clause-later
+returns-in_err-first-clause-later g c = g.met.P.PageSpace.later_then _ _ _ _ (c.directory_of.ensures.later _) (c.bucket_at.ensures.later _)
+
+pub returns-in_err-new-clause-later : goal.returns-in_err-new-clause-later
+returns-in_err-new-clause-later g c =
+    let then = g.met.P.PageSpace.later_then _ in
+    then _ _ _ (c.directory_of.ensures.later _) (then _ _ _ (c.bucket_at.ensures.later _) c.branch-space.ensures.later)

@@ -85,3 +85,31 @@ returns-in_ok-set_root-in-Some-without_entry-clause-did g c =
     (λ told t h. set.did.range)
     (λ told t h cs are. del_numbers (subst (λ (o : Option ℕ). AreCounted c.args.key.now o [] t.buckets cs) c.in-Some.is are) (subst (λ (r : Numbers). IsUncounted (length c.args.key.now) c.in-Some.value r (numbers_in c.in-Some-without_entry.numbers)) (same (g.met.P.PageSpace.told_shows _ told) t h) c.in-Some-without_entry.ensures.counted))
     (λ told t h. c.in-Some-without_entry.ensures.counted.peak ∙ ap (λ (r : Numbers). r.peak) (same (g.met.P.PageSpace.told_shows _ told) t h)))
+
+pub returns-in_err-first-clause-later : goal.returns-in_err-first-clause-later
+returns-in_err-first-clause-later g c = g.met.P.PageSpace.later_then _ _ _ _ (c.read_root.ensures.later _) (c.bucket_of.ensures.later _)
+
+pub returns-in_err-del-clause-later : goal.returns-in_err-del-clause-later
+returns-in_err-del-clause-later g c =
+    let then = g.met.P.PageSpace.later_then _ in
+    then _ _ _ (c.read_root.ensures.later _) (then _ _ _ (c.bucket_of.ensures.later _) c.del.ensures.later)
+
+pub returns-in-None-clause-later : goal.returns-in-None-clause-later
+returns-in-None-clause-later g c =
+    let then = g.met.P.PageSpace.later_then _ in
+    then _ _ _ (c.read_root.ensures.later _) (then _ _ _ (c.bucket_of.ensures.later _) c.del.ensures.later)
+
+pub returns-in_err-set_root-in-Some-without_entry-clause-later : goal.returns-in_err-set_root-in-Some-without_entry-clause-later
+returns-in_err-set_root-in-Some-without_entry-clause-later g c =
+    let then = g.met.P.PageSpace.later_then _ in
+    then _ _ _ (c.read_root.ensures.later _) (then _ _ _ (c.bucket_of.ensures.later _) (then _ _ _ c.del.ensures.later c.set_root.ensures.later))
+
+pub returns-in_ok-set_root-in-Some-without_entry-clause-later : goal.returns-in_ok-set_root-in-Some-without_entry-clause-later
+returns-in_ok-set_root-in-Some-without_entry-clause-later g c =
+    let then = g.met.P.PageSpace.later_then _ in
+    then _ _ _ (c.read_root.ensures.later _) (then _ _ _ (c.bucket_of.ensures.later _) (then _ _ _ c.del.ensures.later c.set_root.ensures.later))
+
+pub returns-in-None-without_entry-clause-later : goal.returns-in-None-without_entry-clause-later
+returns-in-None-without_entry-clause-later g c =
+    let then = g.met.P.PageSpace.later_then _ in
+    then _ _ _ (c.read_root.ensures.later _) (then _ _ _ (c.bucket_of.ensures.later _) (then _ _ _ c.del.ensures.later (c.broken.ensures.later _)))

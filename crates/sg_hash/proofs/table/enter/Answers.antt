@@ -79,3 +79,26 @@ returns-in_ok-set_root-in-Some-clause-did g c =
     (did_enter (λ t. g.met.P.PageSpace.told_shows _ t) (reads_then kept c.in_ok-first.ensures.kept) c.in_ok-old.ensures.did set set.range
     (λ shows t h. c.in_ok-first.ensures.read (kept.shows shows) t (still_table kept shows h) (c.in_ok-found.ensures.read shows _ t h.built.trunk))
     (λ told t h. subst (λ (r : Numbers). IsCounted (length c.args.key.now) (length c.args.value.now) c.in_ok-old.old c.args.split r (numbers_in c.in-Some.numbers)) (c.in_ok-found.ensures.read (g.met.P.PageSpace.told_shows _ told) _ t h.built.trunk) c.in-Some.ensures.counted))
+
+pub returns-in_err-first-clause-later : goal.returns-in_err-first-clause-later
+returns-in_err-first-clause-later g c = g.met.P.PageSpace.later_then _ _ _ _ (c.read_root.ensures.later _) (c.bucket_of.ensures.later _)
+
+pub returns-in_err-old-clause-later : goal.returns-in_err-old-clause-later
+returns-in_err-old-clause-later g c =
+    let then = g.met.P.PageSpace.later_then _ in
+    then _ _ _ (c.read_root.ensures.later _) (then _ _ _ (c.bucket_of.ensures.later _) c.put.ensures.later)
+
+pub returns-in_err-set_root-in-Some-clause-later : goal.returns-in_err-set_root-in-Some-clause-later
+returns-in_err-set_root-in-Some-clause-later g c =
+    let then = g.met.P.PageSpace.later_then _ in
+    then _ _ _ (c.read_root.ensures.later _) (then _ _ _ (c.bucket_of.ensures.later _) (then _ _ _ c.put.ensures.later c.set_root.ensures.later))
+
+pub returns-in_ok-set_root-in-Some-clause-later : goal.returns-in_ok-set_root-in-Some-clause-later
+returns-in_ok-set_root-in-Some-clause-later g c =
+    let then = g.met.P.PageSpace.later_then _ in
+    then _ _ _ (c.read_root.ensures.later _) (then _ _ _ (c.bucket_of.ensures.later _) (then _ _ _ c.put.ensures.later c.set_root.ensures.later))
+
+pub returns-in-None-clause-later : goal.returns-in-None-clause-later
+returns-in-None-clause-later g c =
+    let then = g.met.P.PageSpace.later_then _ in
+    then _ _ _ (c.read_root.ensures.later _) (then _ _ _ (c.bucket_of.ensures.later _) (then _ _ _ c.put.ensures.later (c.broken.ensures.later _)))

@@ -36,3 +36,11 @@ pub returns-clause-later : goal.returns-clause-later
 returns-clause-later g c = λ t.
     let then = g.met.P.PageSpace.later_then t in
     then _ _ _ (c.read_root.ensures.later t) (then _ _ _ (c.bucket_of.ensures.later t) (c.find.ensures.later t))
+
+pub returns-in_err-first-clause-later : goal.returns-in_err-first-clause-later
+returns-in_err-first-clause-later g c = λ t. g.met.P.PageSpace.later_then t _ _ _ (c.read_root.ensures.later t) (c.bucket_of.ensures.later t)
+
+pub returns-in_err-value-clause-later : goal.returns-in_err-value-clause-later
+returns-in_err-value-clause-later g c = λ t.
+    let then = g.met.P.PageSpace.later_then t in
+    then _ _ _ (c.read_root.ensures.later t) (then _ _ _ (c.bucket_of.ensures.later t) (c.find.ensures.later t))

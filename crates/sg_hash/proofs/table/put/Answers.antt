@@ -34,3 +34,9 @@ returns-clause-did g c =
     (subst (λ (b : Bool). DidEnter (g.P.PageSpace.view c.args.space.now) (g.P.PageSpace.view c.enter.new.space) c.args.root.0 c.args.key.now c.args.value.now c.args.split b) c.if-not-new.false c.in_ok-new.ensures.did)
     in
     subst (λ (b : Bool). Did (g.P.PageSpace.view c.args.space.now) (g.P.PageSpace.view c.grow.new.space) c.args.root.0 (CanPut (g.P.PageSpace.view c.args.space.now) c.args.key.now b) (IsPut c.args.key.now c.args.value.now b true)) (sym c.if-not-split.false) (put_grown d c.in_ok-grow.ensures.did)
+
+pub returns-in_err-grow-clause-later : goal.returns-in_err-grow-clause-later
+returns-in_err-grow-clause-later g c = g.met.P.PageSpace.later_then _ _ _ _ c.enter.ensures.later c.grow.ensures.later
+
+pub returns-clause-later : goal.returns-clause-later
+returns-clause-later g c = g.met.P.PageSpace.later_then _ _ _ _ c.enter.ensures.later c.grow.ensures.later

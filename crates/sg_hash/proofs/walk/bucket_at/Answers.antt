@@ -24,3 +24,6 @@ returns-clause-read g c = λ shows n t h below.
 
 pub returns-clause-later : goal.returns-clause-later
 returns-clause-later g c = λ t. g.met.P.PageSpace.later_then t _ _ _ (c.directory_of.ensures.later t) (c.get.ensures.later t)
+
+pub returns-in_err-get-clause-later : goal.returns-in_err-get-clause-later
+returns-in_err-get-clause-later g c = λ t. g.met.P.PageSpace.later_then t _ _ _ (c.directory_of.ensures.later t) (c.get.ensures.later t)
