@@ -103,3 +103,37 @@ pub returns-clause-later : goal.returns-clause-later
 returns-clause-later g c =
     let then = g.met.P.PageSpace.later_then _ in
     then _ _ _ (c.search.ensures.later _) (then _ _ _ (c.survey_pages.ensures.later _) (then _ _ _ c.place_row.ensures.later c.raise_peak.ensures.later))
+
+pub returns-clause-counts : goal.returns-clause-counts
+returns-clause-counts g c =
+    let sought = c.search.ensures.counts in
+    let seen = c.survey_pages.ensures.counts in
+    let placed = c.place_row.ensures.counts in
+    let raised = c.raise_peak.ensures.counts in
+    let a = sought.later in
+    let b = seen.later in
+    let d = placed.later in
+    let e = raised.later in
+    record {
+      told = λ t. sought.told (seen.told (placed.told (raised.told t)));
+      later = omega arith;
+      quiet = c.in_ok-raise_peak.ensures.counts.quiet ∙ (c.in_ok-place_row.ensures.counts.quiet ∙ (c.in_ok-survey.ensures.counts.quiet ∙ c.in_ok-search.ensures.counts.quiet));
+      disk = tt;
+      log_end = tt;
+    }
+
+pub returns-clause-few : goal.returns-clause-few
+returns-clause-few g c =
+    let a = c.search.ensures.writes.records in
+    let b = c.survey_pages.ensures.writes.records in
+    let d = c.place_row.ensures.few in
+    let e = c.raise_peak.ensures.few in
+    omega arith
+
+pub returns-in_err-raise_peak-clause-few : goal.returns-in_err-raise_peak-clause-few
+returns-in_err-raise_peak-clause-few g c =
+    let a = c.search.ensures.writes.records in
+    let b = c.survey_pages.ensures.writes.records in
+    let d = c.place_row.ensures.few in
+    let e = c.raise_peak.ensures.few in
+    omega arith

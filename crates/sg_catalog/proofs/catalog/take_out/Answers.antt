@@ -48,3 +48,6 @@ returns-in_err-clear_row-clause-later g c = g.met.P.PageSpace.later_then _ _ _ _
 
 pub returns-clause-later : goal.returns-clause-later
 returns-clause-later g c = g.met.P.PageSpace.later_then _ _ _ _ (c.search.ensures.later _) c.clear_row.ensures.later
+
+pub returns-in_default-clause-later : goal.returns-in_default-clause-later
+returns-in_default-clause-later g c = g.met.P.PageSpace.later_then _ _ _ _ (c.search.ensures.later _) (c.broken.ensures.later _)

@@ -1,4 +1,4 @@
-use Rattle.std.proofs.Common.{refl, sym, ap, ◌∙◌, List, ℕ}
+use Rattle.std.proofs.Common.{refl, sym, ap, ◌∙◌, List, ℕ, arith}
 use Rattle.std.specs.List.{find}
 use Rattle.sg_space.proofs.Known.{keeps_then, reads_then}
 use Rattle.sg_catalog.specs.Calls.{raised}
@@ -79,3 +79,26 @@ pub returns-clause-later : goal.returns-clause-later
 returns-clause-later g c =
     let then = g.met.P.PageSpace.later_then _ in
     then _ _ _ (c.search.ensures.later _) (then _ _ _ (c.search-2.ensures.later _) c.set_row.ensures.later)
+
+pub returns-clause-counts : goal.returns-clause-counts
+returns-clause-counts g c =
+    let first = c.search.ensures.counts in
+    let second = c.search-2.ensures.counts in
+    let changed = c.set_row.ensures.counts in
+    let a = first.later in
+    let b = second.later in
+    let d = changed.later in
+    record {
+      told = λ t. first.told (second.told (changed.told t));
+      later = omega arith;
+      quiet = c.in_ok-set_row.ensures.counts.quiet ∙ (c.in_ok-sought.ensures.counts.quiet ∙ c.in_ok-search.ensures.counts.quiet);
+      disk = tt;
+      log_end = tt;
+    }
+
+pub returns-clause-few : goal.returns-clause-few
+returns-clause-few g c =
+    let a = c.search.ensures.writes.records in
+    let b = c.search-2.ensures.writes.records in
+    let d = c.set_row.ensures.few in
+    omega arith

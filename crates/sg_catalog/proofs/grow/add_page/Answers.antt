@@ -33,3 +33,9 @@ returns-clause-did g c =
         }),
       );
     }
+
+pub returns-in_err-set_next-clause-later : goal.returns-in_err-set_next-clause-later
+returns-in_err-set_next-clause-later g c = g.met.P.PageSpace.later_then _ _ _ _ c.take_page_with.ensures.later c.set_next.ensures.later
+
+pub returns-clause-later : goal.returns-clause-later
+returns-clause-later g c = g.met.P.PageSpace.later_then _ _ _ _ c.take_page_with.ensures.later c.set_next.ensures.later

@@ -43,3 +43,12 @@ pub returns-in_err-head-clause-quiet : goal.returns-in_err-head-clause-quiet
 returns-in_err-head-clause-quiet g c =
     let quiet = λ (e : c.in_err-head.field-0.0 ≡ Memory). c.in_err-head.ensures.quiet e ∙ c.pages.invariant.quiet in
     search (rules, quiet)
+
+pub returns-in_err-pages-clause-later : goal.returns-in_err-pages-clause-later
+returns-in_err-pages-clause-later g c = λ t. g.met.P.PageSpace.later_then t _ _ _ (c.gather.ensures.later t) (c.pages_wanted.ensures.later t)
+
+pub returns-then-eq-clause-later : goal.returns-then-eq-clause-later
+returns-then-eq-clause-later g c = λ t. g.met.P.PageSpace.later_then t _ _ _ (c.pages.invariant.later t) (c.broken.ensures.later t)
+
+pub returns-clause-later : goal.returns-clause-later
+returns-clause-later g c = c.pages.invariant.later

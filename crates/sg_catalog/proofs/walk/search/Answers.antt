@@ -63,3 +63,9 @@ returns-then-ne-clause-later g c = λ t. g.met.P.PageSpace.later_then t _ _ _ (c
 
 pub returns-in_err-seen-clause-later : goal.returns-in_err-seen-clause-later
 returns-in_err-seen-clause-later g c = λ t. g.met.P.PageSpace.later_then t _ _ _ (c.pages.invariant.later t) (c.look-in-pages.ensures.later t)
+
+pub returns-in_err-pages-clause-later : goal.returns-in_err-pages-clause-later
+returns-in_err-pages-clause-later g c = λ t. g.met.P.PageSpace.later_then t _ _ _ (c.look.ensures.later t) (c.pages_wanted.ensures.later t)
+
+pub returns-then-eq-clause-later : goal.returns-then-eq-clause-later
+returns-then-eq-clause-later g c = λ t. g.met.P.PageSpace.later_then t _ _ _ (c.pages.invariant.later t) (c.broken.ensures.later t)

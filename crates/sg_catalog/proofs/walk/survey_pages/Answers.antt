@@ -70,3 +70,9 @@ returns-in_err-found-clause-later g c = λ t. g.met.P.PageSpace.later_then t _ _
 
 pub returns-then-ne-clause-later : goal.returns-then-ne-clause-later
 returns-then-ne-clause-later g c = λ t. g.met.P.PageSpace.later_then t _ _ _ (c.pages.invariant.later t) (c.broken-then-ne.ensures.later t)
+
+pub returns-in_err-pages-clause-later : goal.returns-in_err-pages-clause-later
+returns-in_err-pages-clause-later g c = λ t. g.met.P.PageSpace.later_then t _ _ _ (c.measure.ensures.later t) (c.pages_wanted.ensures.later t)
+
+pub returns-then-eq-clause-later : goal.returns-then-eq-clause-later
+returns-then-eq-clause-later g c = λ t. g.met.P.PageSpace.later_then t _ _ _ (c.pages.invariant.later t) (c.broken.ensures.later t)
