@@ -65,3 +65,12 @@ returns-clause-within g c = λ shows b h.
     let from = c.if-at-found.false in
     let to = c.if-count-found.false in
     omega arith
+
+pub returns-then-at-found-clause-later : goal.returns-then-at-found-clause-later
+returns-then-at-found-clause-later g c = g.met.P.PageSpace.later_then _ _ _ _ (c.read_root.ensures.later _) (c.broken.ensures.later _)
+
+pub returns-in_err-paint_all-clause-later : goal.returns-in_err-paint_all-clause-later
+returns-in_err-paint_all-clause-later g c = g.met.P.PageSpace.later_then _ _ _ _ (c.read_root.ensures.later _) c.paint_all.ensures.later
+
+pub returns-clause-later : goal.returns-clause-later
+returns-clause-later g c = g.met.P.PageSpace.later_then _ _ _ _ (c.read_root.ensures.later _) c.paint_all.ensures.later

@@ -41,3 +41,12 @@ returns-clause-within g c = λ shows r h.
     let peak = (c.in_ok-found.ensures.read shows r h).1 in
     let test = c.if-size-found.false in
     omega arith
+
+pub returns-then-size-found-clause-later : goal.returns-then-size-found-clause-later
+returns-then-size-found-clause-later g c = g.met.P.PageSpace.later_then _ _ _ _ (c.read_root.ensures.later _) (c.broken.ensures.later _)
+
+pub returns-in_err-set_root-clause-later : goal.returns-in_err-set_root-clause-later
+returns-in_err-set_root-clause-later g c = g.met.P.PageSpace.later_then _ _ _ _ (c.read_root.ensures.later _) c.set_root.ensures.later
+
+pub returns-clause-later : goal.returns-clause-later
+returns-clause-later g c = g.met.P.PageSpace.later_then _ _ _ _ (c.read_root.ensures.later _) c.set_root.ensures.later

@@ -106,3 +106,21 @@ returns-clause-did g c =
             writes_then (writes_none kept.wrote) (writes_then (writes_less (two.1).bands.more (painted.wrote t1 (raw_of b) k.raw (record { from = omega arith; within = omega arith }))) (writes_then two.3 (set.wrote t3 two.0 (two.1).raw tt))),
           );
     }
+
+pub returns-in_err-paint_all-clause-later : goal.returns-in_err-paint_all-clause-later
+returns-in_err-paint_all-clause-later g c = g.met.P.PageSpace.later_then _ _ _ _ (c.read_root.ensures.later _) c.paint_all.ensures.later
+
+pub returns-in_err-grow_to-clause-later : goal.returns-in_err-grow_to-clause-later
+returns-in_err-grow_to-clause-later g c =
+    let then = g.met.P.PageSpace.later_then _ in
+    then _ _ _ (c.read_root.ensures.later _) (then _ _ _ c.paint_all.ensures.later c.grow_to.ensures.later)
+
+pub returns-in_err-set_root-clause-later : goal.returns-in_err-set_root-clause-later
+returns-in_err-set_root-clause-later g c =
+    let then = g.met.P.PageSpace.later_then _ in
+    then _ _ _ (c.read_root.ensures.later _) (then _ _ _ c.paint_all.ensures.later (then _ _ _ c.grow_to.ensures.later c.set_root.ensures.later))
+
+pub returns-clause-later : goal.returns-clause-later
+returns-clause-later g c =
+    let then = g.met.P.PageSpace.later_then _ in
+    then _ _ _ (c.read_root.ensures.later _) (then _ _ _ c.paint_all.ensures.later (then _ _ _ c.grow_to.ensures.later c.set_root.ensures.later))

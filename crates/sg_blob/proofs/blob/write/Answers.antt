@@ -105,3 +105,24 @@ returns-clause-within g c = λ shows b h.
     let count = (c.in_ok-found.ensures.read shows (raw_of b) h.raw).0 in
     let test = c.if-at-found.false in
     omega arith
+
+pub returns-then-at-found-clause-later : goal.returns-then-at-found-clause-later
+returns-then-at-found-clause-later g c = g.met.P.PageSpace.later_then _ _ _ _ (c.read_root.ensures.later _) (c.broken.ensures.later _)
+
+pub returns-in_err-grow_to-clause-later : goal.returns-in_err-grow_to-clause-later
+returns-in_err-grow_to-clause-later g c = g.met.P.PageSpace.later_then _ _ _ _ (c.read_root.ensures.later _) c.grow_to.ensures.later
+
+pub returns-in_err-write_all-clause-later : goal.returns-in_err-write_all-clause-later
+returns-in_err-write_all-clause-later g c =
+    let then = g.met.P.PageSpace.later_then _ in
+    then _ _ _ (c.read_root.ensures.later _) (then _ _ _ c.grow_to.ensures.later (c.write_all.ensures.later _))
+
+pub returns-in_err-set_root-clause-later : goal.returns-in_err-set_root-clause-later
+returns-in_err-set_root-clause-later g c =
+    let then = g.met.P.PageSpace.later_then _ in
+    then _ _ _ (c.read_root.ensures.later _) (then _ _ _ c.grow_to.ensures.later (then _ _ _ (c.write_all.ensures.later _) c.set_root.ensures.later))
+
+pub returns-clause-later : goal.returns-clause-later
+returns-clause-later g c =
+    let then = g.met.P.PageSpace.later_then _ in
+    then _ _ _ (c.read_root.ensures.later _) (then _ _ _ c.grow_to.ensures.later (then _ _ _ (c.write_all.ensures.later _) c.set_root.ensures.later))

@@ -56,3 +56,6 @@ returns-in_err-paint_in-clause-few g c = pieces_one _ _ _ _ c.pieces.done _ c.pi
 
 pub returns-clause-few : goal.returns-clause-few
 returns-clause-few g c = pieces_all _ _ _ c.pieces.done _ c.pieces.invariant.few c.pieces.invariant.so_far.within
+
+pub returns-in_err-paint_in-clause-later : goal.returns-in_err-paint_in-clause-later
+returns-in_err-paint_in-clause-later g c = g.met.P.PageSpace.later_then _ _ _ _ c.pieces.invariant.later c.paint_in.ensures.later

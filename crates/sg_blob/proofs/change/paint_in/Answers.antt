@@ -34,3 +34,9 @@ returns-clause-did g c =
           after_reads kept shows (paint_turns c.args.at c.args.count _ (length-rendered op c.args.arg.now c.args.at c.args.count) (still_raw kept shows h) (c.in_ok-b.ensures.read shows r h) can c.requires.piece (did.bands told) (did.pages told));
       wrote = λ t r h can. writes_then (writes_none kept.wrote) (writes_less (λ n same. (_, c.in_ok-b.ensures.read (g.met.P.PageSpace.told_shows _ t) r h ∙ ap (λ (m : ℕ). Some m) (sym same))) did.writes);
     }
+
+pub returns-in_err-paint_band-clause-later : goal.returns-in_err-paint_band-clause-later
+returns-in_err-paint_band-clause-later g c = g.met.P.PageSpace.later_then _ _ _ _ (c.band_at.ensures.later _) c.paint_band.ensures.later
+
+pub returns-clause-later : goal.returns-clause-later
+returns-clause-later g c = g.met.P.PageSpace.later_then _ _ _ _ (c.band_at.ensures.later _) c.paint_band.ensures.later

@@ -24,3 +24,9 @@ returns-clause-did g c =
           after_reads kept shows (write_turns c.args.at c.args.bytes.now (still_raw kept shows h) (c.in_ok-b.ensures.read shows r h) can c.requires.piece (did.bands told) (did.pages told));
       wrote = λ t r h can. writes_then (writes_none kept.wrote) (writes_less (λ n same. (_, c.in_ok-b.ensures.read (g.met.P.PageSpace.told_shows _ t) r h ∙ ap (λ (m : ℕ). Some m) (sym same))) did.writes);
     }
+
+pub returns-in_err-write_band-clause-later : goal.returns-in_err-write_band-clause-later
+returns-in_err-write_band-clause-later g c = λ t. g.met.P.PageSpace.later_then t _ _ _ (c.band_at.ensures.later t) (c.write_band.ensures.later t)
+
+pub returns-clause-later : goal.returns-clause-later
+returns-clause-later g c = λ t. g.met.P.PageSpace.later_then t _ _ _ (c.band_at.ensures.later t) (c.write_band.ensures.later t)
