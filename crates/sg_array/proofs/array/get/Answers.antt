@@ -23,3 +23,12 @@ returns-clause-read g c = λ shows a h.
     let read = before (λ (s : Space). HasAt s.pages.at c.in_ok-place.place.leaf.0 (HasCell 4 c.in_ok-place.place.slot c.read_cell.new.into)) kept shows (c.in_ok-read_cell.ensures.read (kept.shows shows)) in
     let item = item_read h.built at read in
     item ∙ ap Some (sym (front_is a.size c.read_cell.new.into _ ((h.built.limits.each c.args.i _ item).sized)))
+
+pub returns-then-into-size-clause-later : goal.returns-then-into-size-clause-later
+returns-then-into-size-clause-later g c = λ t. g.met.P.PageSpace.later_then t _ _ _ (c.place_of.ensures.later t) (c.broken.ensures.later t)
+
+pub returns-in_err-read_cell-clause-later : goal.returns-in_err-read_cell-clause-later
+returns-in_err-read_cell-clause-later g c = λ t. g.met.P.PageSpace.later_then t _ _ _ (c.place_of.ensures.later t) (c.read_cell.ensures.later t)
+
+pub returns-clause-later : goal.returns-clause-later
+returns-clause-later g c = λ t. g.met.P.PageSpace.later_then t _ _ _ (c.place_of.ensures.later t) (c.read_cell.ensures.later t)

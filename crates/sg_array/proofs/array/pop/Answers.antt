@@ -64,3 +64,19 @@ returns-clause-item g c = λ shows a h.
     let long = last.count_is in
     let last_is : length a.items - 1 ≡ c.in_ok-last.last.count = omega arith in
     ap (λ (n : ℕ). slice_get a.items n) last_is ∙ (item ∙ ap Some (sym (front_is a.size c.read_cell.new.into _ (h.built.limits.each c.in_ok-last.last.count _ item).sized)))
+
+pub returns-then-into-size-clause-later : goal.returns-then-into-size-clause-later
+returns-then-into-size-clause-later g c = g.met.P.PageSpace.later_then _ _ _ _ (c.last_of.ensures.later _) (c.broken.ensures.later _)
+
+pub returns-in_err-read_cell-clause-later : goal.returns-in_err-read_cell-clause-later
+returns-in_err-read_cell-clause-later g c = g.met.P.PageSpace.later_then _ _ _ _ (c.last_of.ensures.later _) (c.read_cell.ensures.later _)
+
+pub returns-in_err-take_last-clause-later : goal.returns-in_err-take_last-clause-later
+returns-in_err-take_last-clause-later g c =
+    let then = g.met.P.PageSpace.later_then _ in
+    then _ _ _ (c.last_of.ensures.later _) (then _ _ _ (c.read_cell.ensures.later _) c.take_last.ensures.later)
+
+pub returns-clause-later : goal.returns-clause-later
+returns-clause-later g c =
+    let then = g.met.P.PageSpace.later_then _ in
+    then _ _ _ (c.last_of.ensures.later _) (then _ _ _ (c.read_cell.ensures.later _) c.take_last.ensures.later)

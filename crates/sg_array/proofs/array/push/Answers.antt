@@ -46,3 +46,19 @@ returns-clause-did g c =
           let b = did.done mid _ x.builds.built (can_put x next) in
           (_, after_reads kept shows (push_turns c.args.item.now x b), is_pushed c.args.item.now x (did.keeps mid));
     }
+
+pub returns-then-item-found-clause-later : goal.returns-then-item-found-clause-later
+returns-then-item-found-clause-later g c = g.met.P.PageSpace.later_then _ _ _ _ (c.read_root.ensures.later _) (c.broken.ensures.later _)
+
+pub returns-in_err-leaf-clause-later : goal.returns-in_err-leaf-clause-later
+returns-in_err-leaf-clause-later g c = g.met.P.PageSpace.later_then _ _ _ _ (c.read_root.ensures.later _) c.leaf_for.ensures.later
+
+pub returns-in_err-put_last-clause-later : goal.returns-in_err-put_last-clause-later
+returns-in_err-put_last-clause-later g c =
+    let then = g.met.P.PageSpace.later_then _ in
+    then _ _ _ (c.read_root.ensures.later _) (then _ _ _ c.leaf_for.ensures.later c.put_last.ensures.later)
+
+pub returns-clause-later : goal.returns-clause-later
+returns-clause-later g c =
+    let then = g.met.P.PageSpace.later_then _ in
+    then _ _ _ (c.read_root.ensures.later _) (then _ _ _ c.leaf_for.ensures.later c.put_last.ensures.later)

@@ -27,3 +27,12 @@ returns-clause-did g c =
           let at = c.in_ok-place.ensures.read shows a h in
           (_, after_reads kept shows (set_turns (table_of (λ p. (goal.RecordOp-dyn g p).record_meaning p.1) (λ p. (goal.RangeOp-dyn g p).range_meaning p.1) c.args.ops.now) (still_array kept shows h) at (record { sized = can.1; bytes = c.are_bytes.ensures }) (did.pages (kept.keeps.told t)) (did.bands (kept.keeps.told t))), record { items = refl; same = record { size = refl; peak = refl; index = refl; leaves = refl } });
     }
+
+pub returns-then-item-place-clause-later : goal.returns-then-item-place-clause-later
+returns-then-item-place-clause-later g c = g.met.P.PageSpace.later_then _ _ _ _ (c.find_item.ensures.later _) (c.broken.ensures.later _)
+
+pub returns-in_err-change-clause-later : goal.returns-in_err-change-clause-later
+returns-in_err-change-clause-later g c = g.met.P.PageSpace.later_then _ _ _ _ (c.find_item.ensures.later _) c.change.ensures.later
+
+pub returns-clause-later : goal.returns-clause-later
+returns-clause-later g c = g.met.P.PageSpace.later_then _ _ _ _ (c.find_item.ensures.later _) c.change.ensures.later

@@ -46,3 +46,9 @@ returns-clause-did g c =
           let can = grow_ready _ h next c.requires.longest part d in
           new_leaf h peak (is_full h peak part) (did.done t a h can) (ap (λ (n : ℕ). n % 509) (sym can.behind)) link.small (link.done mid) (link.keeps mid) (link.may_fill mid);
     }
+
+pub returns-in_err-leaf-clause-later : goal.returns-in_err-leaf-clause-later
+returns-in_err-leaf-clause-later g c = g.met.P.PageSpace.later_then _ _ _ _ c.index_for.ensures.later c.link_new.ensures.later
+
+pub returns-clause-later : goal.returns-clause-later
+returns-clause-later g c = g.met.P.PageSpace.later_then _ _ _ _ c.index_for.ensures.later c.link_new.ensures.later

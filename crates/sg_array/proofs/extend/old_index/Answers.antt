@@ -31,3 +31,9 @@ returns-clause-did g c =
           let at = c.in_ok-index.ensures.read shows a h.built.names in
           old_index (kept.same shows) h (ap (λ (n : ℕ). slice_get a.index (n / 509)) can.behind ∙ at) (roomy_still can.roomy kept.keeps);
     }
+
+pub returns-in_err-check_kind-clause-later : goal.returns-in_err-check_kind-clause-later
+returns-in_err-check_kind-clause-later g c = λ t. g.met.P.PageSpace.later_then t _ _ _ (c.index_at.ensures.later t) (c.check_kind.ensures.later t)
+
+pub returns-clause-later : goal.returns-clause-later
+returns-clause-later g c = λ t. g.met.P.PageSpace.later_then t _ _ _ (c.index_at.ensures.later t) (c.check_kind.ensures.later t)

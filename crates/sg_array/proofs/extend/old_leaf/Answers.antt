@@ -38,3 +38,9 @@ returns-clause-did g c =
           let below = next_below h (why _ _ _ _ _ _ next.count_is next.can.fits next.peak_is c.requires.why) in
           old_leaf (kept.same shows) h below (ap (λ (n : ℕ). slice_get a.leaves n) (sym d) ∙ at) (roomy_still next.can.roomy kept.keeps);
     }
+
+pub returns-in_err-check_kind-clause-later : goal.returns-in_err-check_kind-clause-later
+returns-in_err-check_kind-clause-later g c = λ t. g.met.P.PageSpace.later_then t _ _ _ (c.leaf_at.ensures.later t) (c.check_kind.ensures.later t)
+
+pub returns-clause-later : goal.returns-clause-later
+returns-clause-later g c = λ t. g.met.P.PageSpace.later_then t _ _ _ (c.leaf_at.ensures.later t) (c.check_kind.ensures.later t)

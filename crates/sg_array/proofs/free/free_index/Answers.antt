@@ -71,3 +71,11 @@ pub returns-in_err-free_page-clause-later : goal.returns-in_err-free_page-clause
 returns-in_err-free_page-clause-later g c = λ t.
     let then = g.met.P.PageSpace.later_then in
     then t _ _ _ (c.loop-j.invariant.later t) (then t _ _ _ (c.link_at.ensures.later t) (then t _ _ _ (c.check_kind.ensures.later t) (c.free_page.ensures.later t)))
+
+pub returns-in_err-index-clause-later : goal.returns-in_err-index-clause-later
+returns-in_err-index-clause-later g c = λ t. g.met.P.PageSpace.later_then t _ _ _ (c.loop-j.invariant.later t) (c.link_at.ensures.later t)
+
+pub returns-in_err-check_kind-clause-later : goal.returns-in_err-check_kind-clause-later
+returns-in_err-check_kind-clause-later g c = λ t.
+    let then = g.met.P.PageSpace.later_then in
+    then t _ _ _ (c.loop-j.invariant.later t) (then t _ _ _ (c.link_at.ensures.later t) (c.check_kind.ensures.later t))

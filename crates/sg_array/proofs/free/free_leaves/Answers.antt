@@ -70,3 +70,11 @@ pub returns-in_err-free_page-clause-later : goal.returns-in_err-free_page-clause
 returns-in_err-free_page-clause-later g c = λ t.
     let then = g.met.P.PageSpace.later_then in
     then t _ _ _ (c.loop-d.invariant.later t) (then t _ _ _ (c.leaf_at.ensures.later t) (then t _ _ _ (c.check_kind.ensures.later t) (c.free_page.ensures.later t)))
+
+pub returns-in_err-leaf-clause-later : goal.returns-in_err-leaf-clause-later
+returns-in_err-leaf-clause-later g c = λ t. g.met.P.PageSpace.later_then t _ _ _ (c.loop-d.invariant.later t) (c.leaf_at.ensures.later t)
+
+pub returns-in_err-check_kind-clause-later : goal.returns-in_err-check_kind-clause-later
+returns-in_err-check_kind-clause-later g c = λ t.
+    let then = g.met.P.PageSpace.later_then in
+    then t _ _ _ (c.loop-d.invariant.later t) (then t _ _ _ (c.leaf_at.ensures.later t) (c.check_kind.ensures.later t))

@@ -34,3 +34,9 @@ returns-clause-did g c =
           put_builds t c.args.item.now _ _ h can (same_rest can.count_is c.per_page.ensures can.size_is) (record { sized = c.requires.fits ∙ can.size_is; bytes = c.are_bytes.ensures }) (omega arith) count peak
           (first.pages told) (first.bands told) (then.pages mid (root_of a) a.index (root_still _ h can.at (first.pages told))) (then.bands mid);
     }
+
+pub returns-in_err-set_root-clause-later : goal.returns-in_err-set_root-clause-later
+returns-in_err-set_root-clause-later g c = g.met.P.PageSpace.later_then _ _ _ _ c.change.ensures.later c.set_root.ensures.later
+
+pub returns-clause-later : goal.returns-clause-later
+returns-clause-later g c = g.met.P.PageSpace.later_then _ _ _ _ c.change.ensures.later c.set_root.ensures.later

@@ -29,3 +29,9 @@ returns-clause-did g c =
           let mid = first.told told in
           take_builds t h last (first.pages told) (first.bands told) (then.pages mid (root_of a) a.index (root_still _ h last.place.leaf_is (first.pages told))) (then.bands mid);
     }
+
+pub returns-in_err-set_root-clause-later : goal.returns-in_err-set_root-clause-later
+returns-in_err-set_root-clause-later g c = g.met.P.PageSpace.later_then _ _ _ _ c.change.ensures.later c.set_root.ensures.later
+
+pub returns-clause-later : goal.returns-clause-later
+returns-clause-later g c = g.met.P.PageSpace.later_then _ _ _ _ c.change.ensures.later c.set_root.ensures.later

@@ -28,3 +28,9 @@ returns-clause-did g c =
           let at = c.in_ok-place.ensures.read shows a h in
           (_, after_reads kept shows (apply_turns {t = t} (still_array kept shows h) at can (after_item {t = t} c.laws.ensures c.are_bytes.ensures h.built can) (did.pages (kept.keeps.told told)) (did.bands (kept.keeps.told told))), is_applied can);
     }
+
+pub returns-in_err-change-clause-later : goal.returns-in_err-change-clause-later
+returns-in_err-change-clause-later g c = g.met.P.PageSpace.later_then _ _ _ _ (c.find_item.ensures.later _) c.change.ensures.later
+
+pub returns-clause-later : goal.returns-clause-later
+returns-clause-later g c = g.met.P.PageSpace.later_then _ _ _ _ (c.find_item.ensures.later _) c.change.ensures.later

@@ -17,3 +17,12 @@ returns-clause-read g c = λ shows a h.
     let count = is.1 in
     let kept = c.in_ok-found.ensures.kept in
     record { place = c.in_ok-place.ensures.read (kept.shows shows) a (still_array kept shows h); count_is = omega arith; peak_is = is.2 }
+
+pub returns-then-found-eq0-clause-later : goal.returns-then-found-eq0-clause-later
+returns-then-found-eq0-clause-later g c = λ t. g.met.P.PageSpace.later_then t _ _ _ (c.read_root.ensures.later t) (c.broken.ensures.later t)
+
+pub returns-in_err-place-clause-later : goal.returns-in_err-place-clause-later
+returns-in_err-place-clause-later g c = λ t. g.met.P.PageSpace.later_then t _ _ _ (c.read_root.ensures.later t) (c.place_of.ensures.later t)
+
+pub returns-clause-later : goal.returns-clause-later
+returns-clause-later g c = λ t. g.met.P.PageSpace.later_then t _ _ _ (c.read_root.ensures.later t) (c.place_of.ensures.later t)

@@ -22,3 +22,9 @@ returns-clause-read g c = λ shows a h.
     let kept = c.in_ok-index.ensures.kept in
     let read = before (λ (s : Space). HasAt s.pages.at c.in_ok-index.index.0 (HasCell 3 (c.args.d % 509) (little_bytes 4 c.in_ok-found.found.0))) kept shows (c.in_ok-found.ensures.read (kept.shows shows)) in
     leaf_read c.args.d _ _ h (c.in_ok-index.ensures.read shows a h) c.in_ok-found.ensures.small read
+
+pub returns-in_err-found-clause-later : goal.returns-in_err-found-clause-later
+returns-in_err-found-clause-later g c = λ t. g.met.P.PageSpace.later_then t _ _ _ (c.index_at.ensures.later t) (c.link_at.ensures.later t)
+
+pub returns-clause-later : goal.returns-clause-later
+returns-clause-later g c = λ t. g.met.P.PageSpace.later_then t _ _ _ (c.index_at.ensures.later t) (c.link_at.ensures.later t)

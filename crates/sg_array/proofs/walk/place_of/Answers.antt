@@ -27,3 +27,12 @@ returns-clause-read g c = λ shows a h.
       slot_is = ap (λ (n : ℕ). c.args.i % n) each;
       size_is = is.0;
     }
+
+pub returns-then-i-found-clause-later : goal.returns-then-i-found-clause-later
+returns-then-i-found-clause-later g c = λ t. g.met.P.PageSpace.later_then t _ _ _ (c.read_root.ensures.later t) (c.broken.ensures.later t)
+
+pub returns-in_err-leaf-clause-later : goal.returns-in_err-leaf-clause-later
+returns-in_err-leaf-clause-later g c = λ t. g.met.P.PageSpace.later_then t _ _ _ (c.read_root.ensures.later t) (c.leaf_at.ensures.later t)
+
+pub returns-clause-later : goal.returns-clause-later
+returns-clause-later g c = λ t. g.met.P.PageSpace.later_then t _ _ _ (c.read_root.ensures.later t) (c.leaf_at.ensures.later t)
