@@ -57,3 +57,16 @@ returns-clause-few g c = λ told.
     let forgot = c.forget.ensures.few in
     let read = c.next_buried.ensures.writes.records in
     omega (arith, freed, forgot, read)
+
+pub returns-in_err-forget-clause-later : goal.returns-in_err-forget-clause-later
+returns-in_err-forget-clause-later g c = g.met.P.PageSpace.later_then _ _ _ _ (c.next_buried.ensures.later _) c.forget.ensures.later
+
+pub returns-in_err-free_body-clause-later : goal.returns-in_err-free_body-clause-later
+returns-in_err-free_body-clause-later g c =
+    let then = g.met.P.PageSpace.later_then _ in
+    then _ _ _ (c.next_buried.ensures.later _) (then _ _ _ c.forget.ensures.later (c.free_body.ensures.later _))
+
+pub returns-clause-later : goal.returns-clause-later
+returns-clause-later g c =
+    let then = g.met.P.PageSpace.later_then _ in
+    then _ _ _ (c.next_buried.ensures.later _) (then _ _ _ c.forget.ensures.later (c.free_body.ensures.later _))
