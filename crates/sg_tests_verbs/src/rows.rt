@@ -654,28 +654,32 @@ fn bytes_of_blobs_come_back(rt: HostRuntime) -> Result<(), Fail> {
     Ok(())
 }
 
+// Whether something was freed of what this transaction dropped, or anyone; none where the space has a fault.
+fn frees(trial: &mut Trial, dropper: Option<TxnId>) -> Option<bool> {
+    free_next(&mut trial.space, &trial.ops, dropper).ok()
+}
+
+// Whether an object that comes back, and is dropped again by transaction 7, keeps its pages until what that one dropped is freed, once.
+fn is_freed_once(trial: &mut Trial, a: Name) -> bool {
+    let free = trial.space.free_pages();
+    if trial.first_wrong(&dropped(a)).is_some() {
+        return false;
+    }
+    let taken = trial.space.free_pages();
+    let discard = [(Does(0, Op::Discard { name: a }), DONE, NONE)];
+    trial.first_wrong(&discard).is_none()
+        && trial.space.free_pages() == taken
+        && frees(trial, Some(TxnId(6))) == Some(false)
+        && frees(trial, Some(TxnId(7))) == Some(true)
+        && trial.space.free_pages() == free
+        && frees(trial, None) == Some(false)
+}
+
 #[test]
 fn a_dropped_object_comes_back_or_is_freed(rt: HostRuntime) -> Result<(), Fail> {
     let mut trial = Trial::new(rt.alloc())?;
-    let free = trial.space.free_pages();
     let a = named(b'a')?;
-    assert_eq!(rt; trial.first_wrong(&dropped(a)), None);
-    let taken = trial.space.free_pages();
-    assert_eq!(rt;
-        trial.first_wrong(&[(Does(0, Op::Discard { name: a }), DONE, NONE)]),
-        None
-    );
-    assert_eq!(rt; trial.space.free_pages(), taken);
-    assert_eq!(rt;
-        free_next(&mut trial.space, &trial.ops, Some(TxnId(6)))?,
-        false
-    );
-    assert_eq!(rt;
-        free_next(&mut trial.space, &trial.ops, Some(TxnId(7)))?,
-        true
-    );
-    assert_eq!(rt; trial.space.free_pages(), free);
-    assert_eq!(rt; free_next(&mut trial.space, &trial.ops, None)?, false);
+    assert!(rt; is_freed_once(&mut trial, a));
     Ok(())
 }
 
