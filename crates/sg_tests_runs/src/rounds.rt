@@ -18,9 +18,6 @@ const TORN: u64 = 0xffff_ffff_ffff_ffff;
 // More calls than any run here makes.
 const MOST_CALLS: u64 = 1_000;
 
-// An opening is stopped after each eighth number of calls, and where it begins goes with the number at which the run was stopped, so that all come by turns.
-const EIGHT: u64 = 8;
-
 // What a stopped run leaves: how many commits it acknowledged, the disk after the crash, and how many calls it made.
 #[derive(Drop)]
 struct Crashed {
@@ -52,18 +49,11 @@ fn crash_run(
     })
 }
 
-// Whether a store that shows so many commits shows as many once its opening was stopped, after these numbers of calls: the first one, and each
-// eighth behind it. Where two stops leave the same bytes, the second shows nothing new.
-fn openings_show(
-    alloc: Global,
-    store: &MemDisk,
-    shown: usize,
-    first: u64,
-    pick: u64,
-) -> Option<bool> {
+// Whether a store that shows so many commits shows as many once its opening was stopped, after each number of calls. Where two stops leave
+// the same bytes, the second shows nothing new.
+fn openings_show(alloc: Global, store: &MemDisk, shown: usize, pick: u64) -> Option<bool> {
     let mut before = copy_of(alloc, store)?;
-    for n in 0..MOST_CALLS {
-        let calls = n.saturating_mul(EIGHT).saturating_add(first);
+    for calls in 0..MOST_CALLS {
         let Crashed {
             disk,
             calls: made,
@@ -83,9 +73,9 @@ fn openings_show(
 }
 
 // The number of commits that a store shows over these bytes, where it shows as many however its opening is stopped.
-fn look(alloc: Global, disk: MemDisk, first: u64, pick: u64) -> Option<Seen> {
+fn look(alloc: Global, disk: MemDisk, pick: u64) -> Option<Seen> {
     let shown = commits_shown(alloc, copy_of(alloc, &disk)?)?;
-    if openings_show(alloc, &disk, shown, first, pick)? {
+    if openings_show(alloc, &disk, shown, pick)? {
         Some(Seen { disk, shown })
     } else {
         None
@@ -113,7 +103,7 @@ fn round(
         calls: made,
     } = crashed;
     if !are_same(&seen.disk, &disk) {
-        *seen = look(alloc, disk, calls % EIGHT, pick)?;
+        *seen = look(alloc, disk, pick)?;
     }
     if is_next(acknowledged, seen.shown) {
         Some((acknowledged, made < calls))
