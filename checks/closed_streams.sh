@@ -5,7 +5,7 @@
 # Each of the three streams is closed, alone and with others, over a new store and over one that was written to, for the
 # program and for ./stasis. A closed standard input is the read fault, status 5, a closed standard output the write
 # fault, status 6, and a closed standard error changes nothing but that nothing is said there. A store then still answers, with
-# what was committed before and nothing else.
+# what was committed before and nothing else. A look at its objects reads no standard input, and so takes no harm where that is closed.
 #
 # It runs the program that the gate or ./stasis has built, prints a line for each case, and ends with 0 only where all
 # went as they should.
@@ -31,6 +31,10 @@ error out-of-range"
 none="ok
 error no-object
 error no-object"
+objects="array a 3 1
+ 0 xyz
+objects 1"
+sum="objects 1 items 1 entries 0 bytes 0 sum 363"
 
 # Runs a command without the streams of these numbers, and leaves its replies and what it said in $work.
 run_without() {
@@ -106,12 +110,35 @@ try_old() {
     compare "later replies" "$("$program" run "$work/store" <"$top/examples/second.txt")" "$answers"
 }
 
+# A look at the objects of a copy of the store that the first example wrote to, by one of the two words for that. It still answers.
+try_look() {
+    local numbers="$1" look="$3" status expected="$4" text="" wanted=0
+    case " $numbers " in
+    *" 1 "*)
+        wanted=6
+        expected=""
+        [[ " $numbers " = *" 2 "* ]] || text="stasis: write fault"
+        ;;
+    esac
+    : >"$work/script"
+    rm -rf "$work/store"
+    cp -r "$work/old" "$work/store"
+    run_without "$numbers" "$2" "$look" "$work/store"
+    status=$?
+    compare "status of $look" "$status" "$wanted" || return 1
+    compare "text of $look" "$(cat "$work/said")" "$text" || return 1
+    compare "what $look writes" "$(cat "$work/replies")" "$expected" || return 1
+    compare "later replies" "$("$program" run "$work/store" <"$top/examples/second.txt")" "$answers"
+}
+
 # Tries these streams closed, in each way.
 try_without() {
     local numbers="$1" verdict=ok
     for command in "$program" "$top/stasis"; do
         try_new "$numbers" "$command" || verdict=FAILED
         try_old "$numbers" "$command" || verdict=FAILED
+        try_look "$numbers" "$command" dump "$objects" || verdict=FAILED
+        try_look "$numbers" "$command" check "$sum" || verdict=FAILED
     done
     [ "$verdict" = ok ] || failures=$((failures + 1))
     echo "without the streams ${numbers// /, }: status $(status_without "$numbers"): $verdict"

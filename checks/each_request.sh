@@ -7,13 +7,16 @@
 #
 #   lines     a script that makes an array, a blob and a table in three commits, aborts a change, and lists the keys and the names;
 #   reopen    the same two lists over a store whose last run was ended in the middle, so that opening has changes to take back;
+#   dump      the objects of the same store, written;
+#   check     what they come to;
 #   init      a new store in a folder that isn't there;
 #   gen       a workload.
 #
 # A run ends with status 3 and its text, or with status 4 and its text where a path had no memory, and has answered no line; or with
 # status 0, and then one of its lists, and nothing else, is answered `error memory`, or all is as ever, where the program could do without. The store
 # opens afterwards with what was acknowledged: with all three commits where the status is 0, and with what it had before where no line was
-# answered. After an `init` the folder has a store, or one can be made there.
+# answered. A `dump` or a `check` ends so too, and has written a front of its text, all of it with status 0. After an `init` the folder has a store, or one can
+# be made there.
 #
 # It wants a C compiler; where none is there it says so and is skipped. It prints a line for each kind of run, and ends with 0 only where all went as
 # they should. The word: how many runs at a time (as many as there are processors).
@@ -144,6 +147,22 @@ judge_run() {
     esac
 }
 
+# Judges a look at the objects of a store.
+judge_look() {
+    case "$status $text" in
+    "0 ")
+        is_as_ever || wrong "$number" "status 0, and it writes: $(tr '\n' ',' <"$at/replies")"
+        outcome="as ever"
+        ;;
+    "3 stasis: out of memory" | "4 stasis: disk fault")
+        cmp -s -n "$(stat -c %s "$at/replies")" "$work/$kind-replies" "$at/replies" || wrong "$number" "status $status, and it writes: $(tr '\n' ',' <"$at/replies")"
+        outcome="status $status"
+        ;;
+    *) wrong "$number" "status $status, and this text: $text" ;;
+    esac
+    looks_as all
+}
+
 # Judges the making of a store. Where it isn't there, it can be made.
 judge_init() {
     case "$status $text" in
@@ -189,6 +208,7 @@ run_refusing() {
     case "$kind" in
     init) set -- init "$at/store" ;;
     gen) set -- gen 7 20 ;;
+    dump | check) set -- "$kind" "$at/store" ;;
     *) set -- run "$at/store" ;;
     esac
     LD_PRELOAD="$work/refuse.so" REFUSED_REQUEST="$number" "$program" "$@" <"$work/$kind" >"$at/replies" 2>"$at/said"
@@ -201,6 +221,7 @@ run_refusing() {
         case "$kind" in
         init) judge_init ;;
         gen) judge_gen ;;
+        dump | check) judge_look ;;
         *) judge_run ;;
         esac
     fi
@@ -249,14 +270,22 @@ end_in_the_middle() {
 failures=0
 : >"$work/init"
 : >"$work/gen"
+: >"$work/dump"
+: >"$work/check"
+printf '%s\n' 'array a 1 1' ' 0 x:00' 'blob b 5' ' 0 x:68656c6c6f' 'table t 3' ' a x:' ' b x:c3a9' ' c x:783a79' 'objects 3' >"$work/dump-replies"
+echo 'objects 3 items 1 entries 3 bytes 5 sum 1489' >"$work/check-replies"
 echo ok >"$work/init-replies"
 "$program" gen 7 20 >"$work/gen-replies" || exit 1
 "$program" init "$work/lines-store" <"$work/init" >"$work/made" || exit 1
 cp -r "$work/lines-store" "$work/reopen-store"
 "$program" run "$work/reopen-store" <"$work/lines" >"$work/made" || exit 1
 end_in_the_middle || exit 1
+cp -r "$work/reopen-store" "$work/dump-store"
+cp -r "$work/reopen-store" "$work/check-store"
 refuse_each gen ""
 refuse_each init ""
 refuse_each lines nothing
 refuse_each reopen all
+refuse_each dump all
+refuse_each check all
 [ "$failures" -eq 0 ]

@@ -95,9 +95,9 @@ end_waiting() {
     compare "status of the waiting one" "$status" "$1"
 }
 
-# A program that has opened a store keeps it: one that only reads is refused, and later finds what was committed.
+# A program that has opened a store keeps it: one that only reads, or only looks at the objects, is refused, and later finds what was committed.
 one_waits_on_a_store() {
-    local store="$work/held" status
+    local store="$work/held" status word
     make_store "$store"
     commits_of a | "$program" run "$store" >"$work/replies"
     start_waiting "$store"
@@ -106,6 +106,12 @@ one_waits_on_a_store() {
     status=$?
     compare status "$status" 4 || return 1
     compare replies "$(cat "$work/replies" "$work/said")" "stasis: disk fault" || return 1
+    for word in dump check; do
+        "$program" "$word" "$store" >"$work/replies" 2>"$work/said" </dev/null
+        status=$?
+        compare "status of $word" "$status" 4 || return 1
+        compare "what $word says" "$(cat "$work/replies" "$work/said")" "stasis: disk fault" || return 1
+    done
     ask "x set a 0 20" ok || return 1
     ask "x commit" ok || return 1
     end_waiting 0 || return 1

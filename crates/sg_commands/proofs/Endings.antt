@@ -152,7 +152,7 @@ tail_shown log_end gate gate' tail v u w (inr shown) (inr later) le waits = inr 
 module _ (basis : Sizes → Ground) (says : Says) (t : Operations)
     (sized : (z : Sizes) (c : disk.Image) (m : Objects) → stores.StandsFor t (basis z) c m → says.sizes c ≡ z) where
   -- what an image stands for as a store of some sizes it stands for by its own
-  its_own : (z : Sizes) (c : disk.Image) (m : Objects) → stores.StandsFor t (basis z) c m → StandsFor basis says t c m
+  pub its_own : (z : Sizes) (c : disk.Image) (m : Objects) → stores.StandsFor t (basis z) c m → StandsFor basis says t c m
   its_own z c m h = subst (λ (q : Sizes). stores.StandsFor t (basis q) c m) (sym (sized z c m h)) h
 
   its_own_first : (z : Sizes) (c : disk.Image) (least : ℕ) (x : Run) → stores.StandsForFirst t (basis z) least x c → StandsForFirst basis says t least x c
@@ -325,7 +325,7 @@ module _ (basis : Sizes → Ground) (says : Says) (t : Operations) (told : Bool)
   }
 
   -- a disk of which no call was made is left alone
-  alone : (v : disk.View) → IsLeftAlone basis says t presumed v v
+  pub alone : (v : disk.View) → IsLeftAlone basis says t presumed v v
   alone v = inl (record { calls = omega arith; failed = inl refl; moments = moments.started v (disk.Leaves v.now) (λ c leaves. leaves) })
 
   -- one for which not even the first memory was there

@@ -5,4 +5,5 @@ pub mod Wanting
 pub mod AllDone
 pub mod OverPages
 pub mod Logged
+pub mod Written
 pub mod Stored

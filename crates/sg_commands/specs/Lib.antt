@@ -7,6 +7,7 @@ pub mod Statuses
 pub mod Words
 pub mod Drawing
 pub mod Logged
+pub mod Written
 pub mod Answers
 pub mod Top
 pub mod Sized

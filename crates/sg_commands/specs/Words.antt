@@ -1,9 +1,11 @@
--- What the words of the program ask for, of what it does today: a run of a script, a new store, a listing of a log, or a workload.
+-- What the words of the program ask for, a run of a script, a new store, its objects or what they come to, a listing of its log, or a workload.
 use Rattle.std.specs.Prelude.{ℕ, Bool, true, false, not, ◌||◌, List, String, Option, Some, None, is_some}
 use Rattle.std.specs.declared.alloc.Global.{Global}
 use Rattle.sg_command.specs.Asked.{asked, texts_of}
 use Rattle.sg_command.specs.declared.words.Command.{Command}
 use Rattle.sg_command.specs.declared.words.Command.TheVariants.{Init, Run, Dump, Check, Log, Gen}
+use Rattle.sg_commands.specs.declared.objects.Listing.{Listing}
+use Rattle.sg_commands.specs.declared.objects.Listing.TheVariants.{Text, Summary}
 
 abbrev pub asks_run : Option Command → Bool
 asks_run None = false
@@ -83,9 +85,22 @@ asks_log (Some (Gen seed count)) = false
 abbrev pub are_log : List (String Global) → Bool
 are_log words = asks_log (asked (texts_of words))
 
+abbrev pub listing_in : Option Command → Option Listing
+listing_in None = None
+listing_in (Some (Init geometry)) = None
+listing_in (Some (Run stop_after)) = None
+listing_in (Some Dump) = Some Text
+listing_in (Some Check) = Some Summary
+listing_in (Some Log) = None
+listing_in (Some (Gen seed count)) = None
+
+-- what the words ask to be written of a store's objects, if they do
+abbrev pub listing_asked : List (String Global) → Option Listing
+listing_asked words = listing_in (asked (texts_of words))
+
 -- what the words ask for is done on the disk
 abbrev pub call_disk : List (String Global) → Bool
-call_disk words = are_run words || (are_init words || are_log words)
+call_disk words = are_run words || (are_init words || (are_log words || is_some (listing_asked words)))
 
 -- the program does what the words ask for
 abbrev pub are_served : List (String Global) → Bool

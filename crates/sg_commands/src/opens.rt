@@ -18,7 +18,7 @@ use sg_base::Area;
 use sg_disk::{Disk, Presumed};
 use sg_geometry::Geometry;
 use sg_ops::Ops;
-use sg_store::{Lists, Store, Truncates};
+use sg_store::{Store, Tells, Truncates};
 use std::alloc::Global;
 
 /// Why a store isn't opened.
@@ -55,7 +55,7 @@ pub struct Unopened<D> {
 }
 
 /// An engine of a store that can be opened on a disk.
-pub trait Opens<D: Presumed>: Lists + Truncates {
+pub trait Opens<D: Presumed>: Tells + Truncates {
     /// What images say of their stores.
     ghost says: { Says };
 

@@ -1,11 +1,12 @@
 ghost use Rattle.std.specs.Prelude.{◌≡◌};
-ghost use Rattle.sg_commands.specs.Statuses.{status_of_refusal, status_of_making, status_of_sizes, status_of_end, status_of_stop, first_fault};
+ghost use Rattle.sg_commands.specs.Statuses.{status_of_refusal, status_of_making, status_of_sizes, status_of_end, status_of_stop, status_of_writing, status_of_telling, status_of_check, status_of_closing, first_fault};
 
 use crate::opens::{InitRefused, OpenRefused};
-use sg_base::Area;
+use sg_base::{Area, Failed};
 use sg_command::SizesFault;
 use sg_model::Stop;
 use sg_script::RunEnd;
+use sg_store::{CheckRefused, Refused, Untold};
 
 /// How a command ended: with the status of its first fault, if there was one.
 #[derive(Clone, Copy, Debug, PartialEq, Eq)]
@@ -93,6 +94,48 @@ pub fn status_of_stop(stop: Option<Stop>) -> Status
         None => Status::Done,
         Some(Stop::Disk) => Status::Disk,
         Some(Stop::LogEnd) => Status::LogEnd,
+    }
+}
+
+/// That of bytes that were written to a sink, or weren't.
+pub fn status_of_writing(written: Result<(), Failed>) -> Status
+    ensures { result ≡ status_of_writing written }
+{
+    match written {
+        Ok(()) => Status::Done,
+        Err(_) => Status::Write,
+    }
+}
+
+/// That of a store's objects that were written, or weren't.
+pub fn status_of_telling(told: Result<(), Untold>) -> Status
+    ensures { result ≡ status_of_telling told }
+{
+    match told {
+        Ok(()) => Status::Done,
+        Err(Untold::DiskFault | Untold::Stopped) => Status::Disk,
+        Err(Untold::Memory) => Status::Memory,
+        Err(Untold::Listener) => Status::Write,
+    }
+}
+
+/// That of a store that wasn't checked.
+pub fn status_of_check(why: CheckRefused) -> Status
+    ensures { result ≡ status_of_check why }
+{
+    match why {
+        CheckRefused::DiskFault | CheckRefused::Stopped => Status::Disk,
+        CheckRefused::Memory => Status::Memory,
+    }
+}
+
+/// That of what was asked of a store, with this status, and of closing it then, which fails where the disk does or has.
+pub fn status_of_closing(closed: Result<(), Refused>, status: Status) -> Status
+    ensures { result ≡ status_of_closing closed status }
+{
+    match closed {
+        Ok(()) => status,
+        Err(_) => Status::Disk,
     }
 }
 

@@ -5,19 +5,21 @@ ghost use Rattle.sg_ops.specs.Table.{table_of};
 ghost use Rattle.sg_session.specs.Names.{all_live};
 ghost use Rattle.sg_script.specs.Ending.{MOST_OF_PIECE};
 ghost use Rattle.sg_commands.specs.Images.{IsPresumed};
-ghost use Rattle.sg_commands.specs.Words.{are_run, are_init, are_log, are_served, call_disk, with_file, drawn, stop_after};
+ghost use Rattle.sg_commands.specs.Words.{are_run, are_init, are_log, are_served, call_disk, listing_asked, with_file, drawn, stop_after};
 ghost use Rattle.sg_commands.specs.Making.{MakesOf, IsMade, SaysMade};
 ghost use Rattle.sg_commands.specs.Sized.{Makes};
 ghost use Rattle.sg_commands.specs.Drawing.{Draws, sunk};
 ghost use Rattle.sg_commands.specs.Logged.{ListsLog};
+ghost use Rattle.sg_commands.specs.Written.{WritesObjects, text_for};
 ghost use Rattle.sg_commands.specs.Top.{outside, HasGone, Account};
 
 use crate::listing::list_log;
+use crate::objects::{Listing, write_objects};
 use crate::opens::{Opens, Unopened};
 use crate::sizes::asked_sizes;
 use crate::status::{
-    Status, first_fault, status_of_end, status_of_making, status_of_refusal, status_of_sizes,
-    status_of_stop,
+    Status, first_fault, status_of_closing, status_of_end, status_of_making, status_of_refusal,
+    status_of_sizes, status_of_stop,
 };
 use sg_base::{OutOfMemory, Sink, Source};
 use sg_command::{Command, WordsError, read_command};
@@ -239,13 +241,47 @@ fn list_beside<D: Disk, K: Sink>(alloc: Global, disk: D, out: &mut K) -> Finish<
     }
 }
 
+// Writes what is asked for of the objects of the disk's store, which is opened for that and closed behind it.
+fn objects_behind_fuse<D: Disk, K: Sink, O: Origin + Presumes, E: Opens<Fuse<D, O>>>(
+    alloc: Global,
+    ops: &Ops,
+    disk: D,
+    listing: Listing,
+    out: &mut K,
+) -> Finish<D>
+    requires known { IsTrue O.known }
+    requires passes { O.passes ≡ None }
+    requires began { O.calls ≡ (D.view disk).calls }
+    requires faults { O.faults ≡ (D.view disk).faults }
+    requires presumed { IsPresumed E.basis E.says (table_of record_meaning range_meaning ops.now) D.told O.presumed (D.view disk) }
+    ensures writes { WritesObjects E.basis E.says (text_for listing) (table_of record_meaning range_meaning ops.now) D.told O.presumed (refusing (D.view disk) 0)
+        (refusing (D.view result.disk) result.refused) (sunk (K.taken out.old) (K.faults out.old)) (sunk (K.taken out.new) (K.faults out.new)) result.status }
+    ensures heeded { (result.status ≡ Status.Disk → ⊥) → ((D.view result.disk).faults ≡ (D.view disk).faults) × (result.refused ≡ 0) }
+    ensures spent { Spent None (D.view disk).calls (D.view result.disk).calls result.refused }
+{
+    let fuse = Fuse::<D, O>::marked(disk, None);
+    let opened = match E::open(alloc, ops, fuse) {
+        Ok(store) => store,
+        Err(Unopened { why, disk }) => {
+            let status = status_of_refusal(why);
+            return finished(status, disk);
+        }
+    };
+    let mut store = opened;
+    let written = write_objects(alloc, &mut store, listing, out);
+    let (closed, engine) = store.close_unmarked();
+    let status = status_of_closing(closed, written);
+    finished(status, engine.into_disk())
+}
+
 /// Does what the words say, with the script that the source gives, over the disk: `run` and a folder,
 /// which names the disk, runs the script with these operations over the store that the disk has, up to 64
 /// of whose transactions are live at a time. The replies go to the sink. With `--stop-after` and a number
 /// beside these the disk makes so many more calls at most: each later one fails, and doesn't touch
 /// it. `init` and a folder make a store there of the usual sizes, write `ok`, and read no script. With `--geometry`
 /// and a file beside these the source gives the text that says its sizes; where it says none that are fit the disk
-/// isn't called. `log` and a folder write the listing of the log of the store that the disk has, which isn't opened for
+/// isn't called. `dump` and a folder write the objects of the store that the disk has, and `check` and a folder what they come to: the store is
+/// opened for that, and closed as it is. `log` and a folder write the listing of the log of the store that the disk has, which isn't opened for
 /// that, and nothing to the disk. `gen`, a seed and a count write a workload to the sink, and make no call of the disk or the source.
 /// Other words are `Status::Usage`, and touch nothing; words take memory to be read. A run ends with its
 /// first fault, but for one of the disk: behind that each line is still answered.
@@ -280,6 +316,10 @@ pub fn serve<D: Disk, S: Source, K: Sink, O: Origin + Presumes, E: Opens<Fuse<D,
         (outside (D.view result.disk) (S.left script.new) (S.faults script.new) (K.taken out.new) (K.faults out.new)) result.refused }
     ensures said { are_init words.now ≡ true → SaysMade result.status (sunk (K.taken out.old) (K.faults out.old)) (sunk (K.taken out.new) (K.faults out.new)) }
 
+    // The objects, or what they come to: what the sink took of that, why it isn't done, and that a crash leaves the same objects.
+    ensures objects { IfSome (listing_asked words.now) (λ listing. WritesObjects E.basis E.says (text_for listing) (table_of record_meaning range_meaning ops) D.told O.presumed (refusing (D.view disk) 0)
+        (refusing (D.view result.disk) result.refused) (sunk (K.taken out.old) (K.faults out.old)) (sunk (K.taken out.new) (K.faults out.new)) result.status) }
+
     // The listing of a log: what the sink took of it, why it isn't done, and that the disk is as it was.
     ensures listed { are_log words.now ≡ true → ListsLog result.status D.told (D.view disk) (D.view result.disk) (sunk (K.taken out.old) (K.faults out.old)) (sunk (K.taken out.new) (K.faults out.new)) }
 
@@ -297,12 +337,18 @@ pub fn serve<D: Disk, S: Source, K: Sink, O: Origin + Presumes, E: Opens<Fuse<D,
             run_behind_fuse::<D, S, K, O, E>(alloc, &ops, disk, stop_after, script, out)
         }
         Ok(Command::Init { geometry }) => init::<D, S, K, O, E>(alloc, disk, geometry, script, out),
+        Ok(Command::Dump) => {
+            objects_behind_fuse::<D, K, O, E>(alloc, &ops, disk, Listing::Text, out)
+        }
+        Ok(Command::Check) => {
+            objects_behind_fuse::<D, K, O, E>(alloc, &ops, disk, Listing::Summary, out)
+        }
         Ok(Command::Log) => list_beside(alloc, disk, out),
         Ok(Command::Gen { seed, count }) => {
             let status = draw_workload(seed, count, out);
             ended_beside(status, disk)
         }
-        Ok(_) | Err(WordsError::Usage) => ended_beside(Status::Usage, disk),
+        Err(WordsError::Usage) => ended_beside(Status::Usage, disk),
         Err(WordsError::Memory) => ended_beside(Status::Memory, disk),
     }
 }

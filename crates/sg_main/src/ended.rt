@@ -1,13 +1,14 @@
 ghost use Rattle.std.specs.Prelude.{◌≡◌, ◌≢◌, ◌⊎◌, true, false, IfSome};
 ghost use Rattle.std.specs.IoError.{error_kind};
 ghost use Rattle.std.specs.Process.{exit_status};
-ghost use Rattle.sg_disk.specs.Disk.{Spent};
+ghost use Rattle.sg_disk.specs.Disk.{refusing, Spent};
 ghost use Rattle.sg_ops.specs.Table.{shipped_table, table_of};
-ghost use Rattle.sg_commands.specs.Words.{are_run, are_init, are_log, are_served, call_disk, with_file, drawn, stop_after};
+ghost use Rattle.sg_commands.specs.Words.{are_run, are_init, are_log, are_served, call_disk, listing_asked, with_file, drawn, stop_after};
 ghost use Rattle.sg_commands.specs.Drawing.{Draws, sunk};
 ghost use Rattle.sg_commands.specs.Images.{IsOfStore};
 ghost use Rattle.sg_commands.specs.Logged.{ListsLog};
 ghost use Rattle.sg_commands.specs.Making.{SaysMade};
+ghost use Rattle.sg_commands.specs.Written.{WritesObjects, text_for};
 ghost use Rattle.sg_commands.specs.Sized.{Makes};
 ghost use Rattle.sg_commands.specs.Stores.{grounds, says};
 ghost use Rattle.sg_commands.specs.Top.{outside, Account};
@@ -57,6 +58,8 @@ impl Ended {
         ensures made { are_init words.now ≡ true → Makes grounds says result.1.status (with_file words.now) D.told (outside (D.view disk) (S.left script.old) (S.faults script.old) (K.taken out.old) (K.faults out.old))
             (outside (D.view result.1.disk) (S.left script.new) (S.faults script.new) (K.taken out.new) (K.faults out.new)) result.1.refused }
         ensures said { are_init words.now ≡ true → SaysMade result.1.status (sunk (K.taken out.old) (K.faults out.old)) (sunk (K.taken out.new) (K.faults out.new)) }
+        ensures objects { IfSome (listing_asked words.now) (λ listing. WritesObjects grounds says (text_for listing) shipped_table D.told (IsOfStore grounds says shipped_table (D.view disk)) (refusing (D.view disk) 0)
+            (refusing (D.view result.1.disk) result.1.refused) (sunk (K.taken out.old) (K.faults out.old)) (sunk (K.taken out.new) (K.faults out.new)) result.1.status) }
         ensures listed { are_log words.now ≡ true → ListsLog result.1.status D.told (D.view disk) (D.view result.1.disk) (sunk (K.taken out.old) (K.faults out.old)) (sunk (K.taken out.new) (K.faults out.new)) }
         ensures drawn { IfSome (drawn words.now) (λ d. Draws result.1.status d (sunk (K.taken out.old) (K.faults out.old)) (sunk (K.taken out.new) (K.faults out.new))) }
         // All that `stasis` says, of the very disk that it left.
@@ -93,6 +96,8 @@ impl Ended {
         ensures made { are_init words.now ≡ true → Makes grounds says result.1.status (with_file words.now) D.told (outside (D.view disk) (S.left script.old) (S.faults script.old) (K.taken out.old) (K.faults out.old))
             (outside (D.view result.1.disk) (S.left script.new) (S.faults script.new) (K.taken out.new) (K.faults out.new)) result.1.refused }
         ensures said { are_init words.now ≡ true → SaysMade result.1.status (sunk (K.taken out.old) (K.faults out.old)) (sunk (K.taken out.new) (K.faults out.new)) }
+        ensures objects { IfSome (listing_asked words.now) (λ listing. WritesObjects grounds says (text_for listing) shipped_table D.told (IsOfStore grounds says shipped_table (D.view disk)) (refusing (D.view disk) 0)
+            (refusing (D.view result.1.disk) result.1.refused) (sunk (K.taken out.old) (K.faults out.old)) (sunk (K.taken out.new) (K.faults out.new)) result.1.status) }
         ensures listed { are_log words.now ≡ true → ListsLog result.1.status D.told (D.view disk) (D.view result.1.disk) (sunk (K.taken out.old) (K.faults out.old)) (sunk (K.taken out.new) (K.faults out.new)) }
         ensures drawn { IfSome (drawn words.now) (λ d. Draws result.1.status d (sunk (K.taken out.old) (K.faults out.old)) (sunk (K.taken out.new) (K.faults out.new))) }
         ensures run { are_run words.now ≡ true → Account grounds says shipped_table D.told (IsOfStore grounds says shipped_table (D.view disk)) (outside (D.view disk) (S.left script.old) (S.faults script.old) (K.taken out.old) (K.faults out.old))

@@ -1,5 +1,5 @@
 //! The program `stasis`: makes a store in a folder, of sizes that a file may say, runs a script on standard input over
-//! one and writes the replies to standard output, or lists its log there. It ends with a number for how that went, and says it in words on
+//! one and writes the replies to standard output, or lists its objects, what they come to or its log there. It ends with a number for how that went, and says it in words on
 //! standard error.
 //!
 //! It stands on `sg_top`, which does the work over any disk, source and sink, on `sg_command`, which reads

@@ -1,4 +1,4 @@
-//! Tests of whole runs of the program's words: stores made of the sizes of a text, logs that are listed, and checkpoints; and runs that a stop of the disk
+//! Tests of whole runs of the program's words: stores made of the sizes of a text, objects and logs that are listed, and checkpoints; and runs that a stop of the disk
 //! ends at any call, and that a crash follows: what is there when the store is opened again, and when that opening was stopped too.
 #![tactic(auto)]
 
@@ -8,6 +8,8 @@ mod checkpoints;
 mod geometry;
 #[cfg(test)]
 mod listing;
+#[cfg(test)]
+mod look;
 #[cfg(test)]
 mod objects;
 #[cfg(test)]

@@ -1,7 +1,7 @@
 //! The store and its program: a session answers the lines of a script one at a time over a store in pages, and
 //! `stasis` does what the words say over a disk: it makes a store, or takes a script from a source, executes it
-//! line by line over the disk's store and hands the replies to a sink, or writes a workload. Where the words say
-//! so, the disk stops after a number of calls.
+//! line by line over the disk's store and hands the replies to a sink, or writes the store's objects, what they come
+//! to, its log or a workload. Where the words say so, the disk stops after a number of calls.
 //!
 //! It stands on `sg_commands`, which does the commands over any engine of a store that can be opened, and on the
 //! pages of `sg_paged` over `sg_pages`, which are one. It promises that each reply follows from the lines so far,

@@ -1,14 +1,15 @@
 ghost use Rattle.std.specs.Prelude.{◌≡◌, ◌⊎◌, true, false, IsTrue, IfSome};
-ghost use Rattle.sg_disk.specs.Disk.{Spent};
+ghost use Rattle.sg_disk.specs.Disk.{refusing, Spent};
 ghost use Rattle.sg_ops.specs.Table.{table_of};
 ghost use Rattle.sg_commands.specs.Drawing.{Draws, sunk};
 ghost use Rattle.sg_commands.specs.Images.{IsOfStore, IsPresumed};
 ghost use Rattle.sg_commands.specs.Logged.{ListsLog};
 ghost use Rattle.sg_commands.specs.Making.{SaysMade};
+ghost use Rattle.sg_commands.specs.Written.{WritesObjects, text_for};
 ghost use Rattle.sg_commands.specs.Sized.{Makes};
 ghost use Rattle.sg_commands.specs.Stores.{grounds, says};
 ghost use Rattle.sg_commands.specs.Top.{outside, Account};
-ghost use Rattle.sg_commands.specs.Words.{are_run, are_init, are_log, are_served, call_disk, with_file, drawn, stop_after};
+ghost use Rattle.sg_commands.specs.Words.{are_run, are_init, are_log, are_served, call_disk, listing_asked, with_file, drawn, stop_after};
 
 use sg_base::{Sink, Source};
 use sg_commands::{Finish, Status, serve};
@@ -42,6 +43,8 @@ fn serve_pages<D: Disk, S: Source, K: Sink, O: Origin + Presumes>(
     ensures made { are_init words.now ≡ true → Makes grounds says result.status (with_file words.now) D.told (outside (D.view disk) (S.left script.old) (S.faults script.old) (K.taken out.old) (K.faults out.old))
         (outside (D.view result.disk) (S.left script.new) (S.faults script.new) (K.taken out.new) (K.faults out.new)) result.refused }
     ensures said { are_init words.now ≡ true → SaysMade result.status (sunk (K.taken out.old) (K.faults out.old)) (sunk (K.taken out.new) (K.faults out.new)) }
+    ensures objects { IfSome (listing_asked words.now) (λ listing. WritesObjects grounds says (text_for listing) (table_of record_meaning range_meaning ops) D.told O.presumed (refusing (D.view disk) 0)
+        (refusing (D.view result.disk) result.refused) (sunk (K.taken out.old) (K.faults out.old)) (sunk (K.taken out.new) (K.faults out.new)) result.status) }
     ensures listed { are_log words.now ≡ true → ListsLog result.status D.told (D.view disk) (D.view result.disk) (sunk (K.taken out.old) (K.faults out.old)) (sunk (K.taken out.new) (K.faults out.new)) }
     ensures drawn { IfSome (drawn words.now) (λ d. Draws result.status d (sunk (K.taken out.old) (K.faults out.old)) (sunk (K.taken out.new) (K.faults out.new))) }
     ensures heeded { (result.status ≡ Status.Disk → ⊥) → ((D.view result.disk).faults ≡ (D.view disk).faults) × (result.refused ≡ 0) }
@@ -56,7 +59,8 @@ fn serve_pages<D: Disk, S: Source, K: Sink, O: Origin + Presumes>(
 /// beside these the disk makes so many more calls at most: each later one fails, and doesn't touch
 /// it. `init` and a folder make a store there of the usual sizes, write `ok`, and read no script. With `--geometry`
 /// and a file beside these the source gives the text that says its sizes; where it says none that are fit the disk
-/// isn't called. `log` and a folder write the listing of the log of the store that the disk has, which isn't opened for
+/// isn't called. `dump` and a folder write the objects of the store that the disk has, and `check` and a folder what they come to: the store is
+/// opened for that, and closed as it is. `log` and a folder write the listing of the log of the store that the disk has, which isn't opened for
 /// that, and nothing to the disk. `gen`, a seed and a count write a workload to the sink, and make no call of the
 /// disk or the source. Other words are `Status::Usage`, and touch nothing; words take memory to be read. A run
 /// ends with its first fault, but for one of the disk: behind that each line is still answered.
@@ -87,6 +91,10 @@ pub fn stasis<D: Disk, S: Source, K: Sink>(
     ensures made { are_init words.now ≡ true → Makes grounds says result.status (with_file words.now) D.told (outside (D.view disk) (S.left script.old) (S.faults script.old) (K.taken out.old) (K.faults out.old))
         (outside (D.view result.disk) (S.left script.new) (S.faults script.new) (K.taken out.new) (K.faults out.new)) result.refused }
     ensures said { are_init words.now ≡ true → SaysMade result.status (sunk (K.taken out.old) (K.faults out.old)) (sunk (K.taken out.new) (K.faults out.new)) }
+
+    // The objects, or what they come to: what the sink took of that, why it isn't done, and that a crash leaves the same objects.
+    ensures objects { IfSome (listing_asked words.now) (λ listing. WritesObjects grounds says (text_for listing) (table_of record_meaning range_meaning ops) D.told (IsOfStore grounds says (table_of record_meaning range_meaning ops) (D.view disk))
+        (refusing (D.view disk) 0) (refusing (D.view result.disk) result.refused) (sunk (K.taken out.old) (K.faults out.old)) (sunk (K.taken out.new) (K.faults out.new)) result.status) }
 
     // The listing of a log: what the sink took of it, why it isn't done, and that the disk is as it was.
     ensures listed { are_log words.now ≡ true → ListsLog result.status D.told (D.view disk) (D.view result.disk) (sunk (K.taken out.old) (K.faults out.old)) (sunk (K.taken out.new) (K.faults out.new)) }

@@ -1,8 +1,11 @@
-use Rattle.std.proofs.Common.{ap}
+use Rattle.std.proofs.Common.{ap, ◌∙◌}
+use Rattle.sg_disk.specs.Disk as disk
+use Rattle.sg_commands.specs.declared.objects.Listing.TheVariants.{Text, Summary}
 use Rattle.sg_commands.specs.Top.{outside}
 use Rattle.sg_commands.proofs.Endings.{account_of, never_usage}
 use Rattle.sg_commands.proofs.Making.{said_none}
 use Rattle.sg_commands.proofs.Logged.{lists_none}
+use Rattle.sg_commands.proofs.Written as objects
 use Rattle.sg_commands.proofs.Sized.{makes_none}
 use Rattle.sg_commands.proofs.Wanting.{not_begun, not_drawn, not_spent}
 use Rattle.sg_commands.proofs.top.serve.Goals as goal
@@ -48,3 +51,18 @@ pub returns-clause-listed : goal.returns-clause-listed
 returns-clause-listed g c are_log =
     let it = c.ended_beside-in-Err-Memory.ensures in
     lists_none g.D.Disk.told (g.D.Disk.view c.args.disk) _ _ _ it.0 (ap (λ d. g.D.Disk.view d) it.1)
+
+pub returns-in-Ok-Dump-clause-usage : goal.returns-in-Ok-Dump-clause-usage
+returns-in-Ok-Dump-clause-usage g c is =
+    absurd (objects.never_usage g.E.Engine.basis g.E.Opens.says Text _ g.D.Disk.told g.O.Presumes.presumed _ _ _ _ c.objects_behind_fuse.result.status c.objects_behind_fuse.ensures.writes is)
+
+pub returns-in-Ok-Check-clause-usage : goal.returns-in-Ok-Check-clause-usage
+returns-in-Ok-Check-clause-usage g c is =
+    let it = c.objects_behind_fuse-in-Ok-Check in
+    absurd (objects.never_usage g.E.Engine.basis g.E.Opens.says Summary _ g.D.Disk.told g.O.Presumes.presumed _ _ _ _ it.result.status it.ensures.writes is)
+
+pub returns-clause-objects : goal.returns-clause-objects
+returns-clause-objects g c =
+    let it = c.ended_beside-in-Err-Memory.ensures in
+    objects.not_written g.E.Engine.basis g.E.Opens.says _ _ g.D.Disk.told g.O.Presumes.presumed (disk.refusing (g.D.Disk.view c.args.disk) 0) _ _ _ it.0
+    (ap (λ d. disk.refusing (g.D.Disk.view d) c.ended_beside-in-Err-Memory.result.refused) it.1 ∙ ap (disk.refusing (g.D.Disk.view c.args.disk)) it.2)
