@@ -26,6 +26,7 @@ impl<E: Engine> Acts<E> {
         requires chain { HasChain (E.view self.old.engine) self.old.rows.items self.old.actor }
         requires quiet { (E.view self.old.engine).Told → self.old.begun ≡ false }
         ensures counts { ActsCounts (E.view self.old.engine) (E.view self.new.engine) self.old.breaks self.new.breaks result }
+        ensures log_end { IfErr result (λ f. f ≡ LogEnd → IsNearEnd (E.view self.old.engine)) }
         ensures means { Keeps (E.means self.old.engine) (E.means self.new.engine) }
         ensures did { (limits : State → ℕ → ℕ) (t : Table) (from : State) → E.means self.old.engine t from → IfOk result (Marked t limits (led from (E.view self.old.engine)) (led from (E.view self.new.engine)) self.old.maps self.old.rows.items self.new.rows.items self.old.actor txn mark) }
         ensures maps { self.new.maps ≡ self.old.maps }

@@ -53,7 +53,7 @@ begun_means m b t z from r h quiet s stands few counts whole did = means_next m 
     (spare_on (ap (λ (rs : Steps). (tally rs).live) (c.logged told).steps) c.rows_are (spare_begun u k.kept.chain.rows_are.apart (few told) (k.kept.chain.rows_are.low u.0 above) k.spare))))
 
 -- WHAT IS APPENDED
-abbrev first_lsn : Steps → ℕ
+abbrev pub first_lsn : Steps → ℕ
 first_lsn [] = 0
 first_lsn (r ∷ more) = r.lsn
 

@@ -3,8 +3,10 @@ pub mod Roomy
 pub mod Behind
 pub mod Recorded
 pub mod Begun
+pub mod Marked
 pub mod Rested
 pub mod Laid
 pub mod Undone
+pub mod Wanting
 pub mod Unended
 pub mod Resumed

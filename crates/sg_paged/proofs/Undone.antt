@@ -1,24 +1,29 @@
 -- THE UNDO OF A NOTE begins.
-use Rattle.std.proofs.Common.{◌≡◌, ℕ, ◌+◌, ◌≤◌, true, false, List, [], ◌∷◌, ◌++◌, length, Some, sym, ap, subst, ◌∙◌, refl, arith}
+use Rattle.std.proofs.Common.{◌≡◌, ℕ, ◌+◌, ◌≤◌, nat_lt, Bool, true, false, List, [], ◌∷◌, ◌++◌, length, Option, Some, None, Result, Ok, Err, sym, ap, subst, ◌∙◌, refl, arith}
+use Rattle.std.specs.Prelude.{IfOk, IfSome, if◌then◌else◌}
 use Rattle.sg_alloc.specs.Flags.{free_of, map_bands_of}
 use Rattle.sg_alloc.specs.declared.maps.Maps.{Maps}
 use Rattle.sg_ops.specs.Table.{Table}
 use Rattle.sg_record.specs.Changes.{Change as Changing}
+use Rattle.sg_recovery.specs.Chains.{Formed}
 use Rattle.sg_recovery.specs.Log.{Top, tally, notes_of}
 use Rattle.sg_recovery.specs.Log.Record.{Begin, Change, TopEnd, PhysComp, TopVoid, CompEnd, Save, Commit, End}
 use Rattle.sg_recovery.specs.Stands.{made}
+use Rattle.sg_recovery.proofs.Basic.{lt_not}
 use Rattle.sg_action.specs.States.{State, Kept}
 use Rattle.sg_actions.specs.Engine.{EngineSeen, Moments, led}
 use Rattle.sg_actions.specs.Offed.{kept_in}
 use Rattle.sg_actions.specs.PuttingBack.{MayUndo, UndoBegun}
 use Rattle.sg_actions.specs.Steps.{Steps, repeated}
-use Rattle.sg_actions.specs.Undoing.{is_of_bytes}
+use Rattle.sg_actions.specs.Counts.{Note}
+use Rattle.sg_actions.specs.Undoing.{first_behind, is_of_bytes}
 use Rattle.sg_actions.specs.View.{IsKept, HasFreedNone, Since}
 use Rattle.sg_actions.proofs.Given.{next_first}
+use Rattle.sg_actions.proofs.Walking.{none_some}
 use Rattle.sg_reader.specs.Reader.{limits}
 use Rattle.sg_reader.proofs.Decide.{reader}
 use Rattle.sg_store.specs.Engine as store
-use Rattle.sg_store.specs.Engine.{Sizes, Action, Changes, Changed, action_of}
+use Rattle.sg_store.specs.Engine.{Sizes, Action, Changes, Changed, NoneBehind, action_of}
 use Rattle.sg_ground.specs.Recovers.{Recovering}
 use Rattle.sg_ground.specs.Ground.{PutsBack, HasPutBack, found_of}
 use Rattle.sg_objects.specs.Notes.{note_said}
@@ -31,6 +36,25 @@ use Rattle.sg_shown.proofs.Holding.{Facts, taken_same, counted_same}
 use Rattle.sg_shown.proofs.Spared.{changes_live, spare_on}
 use Rattle.sg_paged.proofs.Behind.{room_same}
 use Rattle.sg_paged.proofs.Laid.{puts_back, put_pages}
+
+-- NO NOTE stands behind the record at which to stop where none is undone next; where that is the begin none stands
+pub none_behind : (stop : ℕ) (ns : List Note) → first_behind stop ns ≡ None → NoneBehind stop ns
+none_behind stop [] e = tt
+none_behind stop (n ∷ ns) e = by (nat_lt stop n.lsn) refl e
+  where
+    by : (b : Bool) → nat_lt stop n.lsn ≡ b → (if b then Some n else None) ≡ None → n.lsn ≤ stop
+    by true k s = absurd (none_some n (sym s))
+    by false k s = lt_not stop n.lsn k
+
+pub none_stand : (rs : Steps) (txn : ℕ) → Formed rs → NoneBehind txn (notes_of txn (tally rs).notes) → notes_of txn (tally rs).notes ≡ []
+none_stand rs txn f h = by (notes_of txn (tally rs).notes) refl
+  where
+    by : (ns : List Note) → notes_of txn (tally rs).notes ≡ ns → notes_of txn (tally rs).notes ≡ []
+    by [] e = e
+    by (n ∷ ns) e =
+        let low : n.lsn ≤ txn = subst (NoneBehind txn) e h in
+        let above = (next_first.some rs txn txn n (next_first.first rs txn n ns f e)).2 in
+        absurd (omega (arith, low, above))
 
 -- what was taken at the begin of an action
 abbrev taken_by : Sizes → Kept → State → Type 0
@@ -96,26 +120,27 @@ undo_changes recovers a m b t z from txn act e h quiet told w is =
     )
 
 -- AND WHAT IT CAME TO
-pub undo_begun : (recovers : Recovering) (a m b : Over) (t : Table) (z : Sizes) (from : State) (txn : ℕ) (note : List ℕ) (next : ℕ) (act : Action (basis recovers z)) (w : MayUndo (recovers t) t (m.limits z.pages z.bands) (led from m.engine) (led from b.engine) m.maps b.rows b.actor txn)
+pub undo_begun : (recovers : Recovering) (a m b : Over) (t : Table) (z : Sizes) (from : State) (txn stop : ℕ) (note : List ℕ) (next : ℕ) (act : Action (basis recovers z)) (w : MayUndo (recovers t) t (m.limits z.pages z.bands) (led from m.engine) (led from b.engine) m.maps b.rows b.actor txn)
     → m.engine ≡ a.engine → Means m t z from → m.begun ≡ false → m.engine.Told → b.engine.Told → Means b t z from → Facts recovers b t from
     → m.engine.tail ≤ b.engine.tail → SameRoom a b → b.begun ≡ true
     → act ≡ record { transaction = txn; pages = made (own recovers t z) from a.engine.steps }
-    → UndoBegun (map_bands_of (length m.maps.pages) (length m.maps.bands)) t (led from m.engine) (led from b.engine) m.rows b.actor txn txn note next
+    → UndoBegun (map_bands_of (length m.maps.pages) (length m.maps.bands)) t (led from m.engine) (led from b.engine) m.rows b.actor txn stop note next
     → (tally a.engine.steps).opened ≡ []
-    → (n : Top Changing (List ℕ)) × (ns : List (Top Changing (List ℕ))) × (notes_of txn (tally a.engine.steps).notes ≡ n ∷ ns) × (n.undo_next ≡ next) × (note ≡ n.note)
+    → (n : Top Changing (List ℕ)) × (ns : List (Top Changing (List ℕ))) × (stop + 1 ≤ n.lsn) × (notes_of txn (tally a.engine.steps).notes ≡ n ∷ ns) × (n.undo_next ≡ next) × (note ≡ n.note)
     × HasPutBack (found_of (map_bands_of z.pages z.bands) (note_said n.note) n.changes) n.note (tally b.engine.steps).opened act.pages (made (own recovers t z) from b.engine.steps)
     × (free_of b.maps.pages + free_of b.unfreed.pages ≡ free_of a.maps.pages + free_of a.unfreed.pages)
     × ((ms : List (Rattle.sg_recovery.specs.Log.Numbered Changing (List ℕ))) → ms ≡ w.made → Changed t (basis recovers z) act (store.led t z from (shown_of recovers a)) (store.led t z from (shown_of recovers b)) ms)
-undo_begun recovers a m b t z from txn note next act w e h quiet told told' hb f tail room begun is did none =
+undo_begun recovers a m b t z from txn stop note next act w e h quiet told told' hb f tail room begun is did none =
     let k = h.keeps told in
     let g = w.gone told' in
     let idle = (k.rest quiet).idle in
-    let first = next_first.some m.engine.steps txn txn did.n did.is_next in
+    let first = next_first.some m.engine.steps txn stop did.n did.is_next in
     let begins : act.pages ≡ repeated t from m.engine.steps = ap (λ (x : Action (basis recovers z)). x.pages) is ∙ (made_is recovers t z from a.engine.steps ∙ ap (λ (y : EngineSeen). repeated t from y.steps) (sym e)) in
     let outside : map_bands_of (length m.maps.pages) (length m.maps.bands) ≡ map_bands_of z.pages z.bands = (λ j. map_bands_of (h.pages j) (h.bands j)) in
     let put : PutsBack (found_of (map_bands_of (length m.maps.pages) (length m.maps.bands)) (note_said note) did.n.changes) (repeated t from m.engine.steps) (repeated t from b.engine.steps) = puts_back (map_bands_of (length m.maps.pages) (length m.maps.bands)) note did.n.changes (repeated t from m.engine.steps) (repeated t from b.engine.steps) did.puts.now in (
       did.n,
       first.0,
+      (let less = first.2 in omega (arith, less)),
       subst (λ (y : EngineSeen). notes_of txn (tally y.steps).notes ≡ did.n ∷ first.0) e first.1,
       did.goes_on,
       sym did.note_is,
@@ -148,3 +173,12 @@ changes_moved recovers a b c t z from act e h = record {
   formed = h.formed;
   moments = subst (λ (y : EngineSeen). Rattle.sg_disk.specs.Disk.LeavesOnly a.engine.disk y.disk (store.IsImageOf t (basis recovers z) (store.led t z from (shown_of recovers a)) (h.made ++ a.engine.steps))) (sym e) h.moments;
 }
+
+-- WHAT IS KNOWN OF A RESULT, or of what may be there, says more
+pub ok_more : {T F : Type 0} (P Q : T → Type 0) (r : Result T F) → ((x : T) → P x → Q x) → IfOk r P → IfOk r Q
+ok_more P Q (Ok x) f h = f x h
+ok_more P Q (Err e) f h = tt
+
+pub some_more : {T : Type 0} (P Q : T → Type 0) (o : Option T) → ((x : T) → P x → Q x) → IfSome o P → IfSome o Q
+some_more P Q (Some x) f h = f x h
+some_more P Q None f h = tt

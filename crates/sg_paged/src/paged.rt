@@ -157,6 +157,25 @@ impl<E: Engine> sg_store::Objects for Paged<E> {
     }
 }
 
+impl<E: Engine> sg_store::Marks for Paged<E> {
+    fn save(&mut self, txn: TxnId, mark: u16) -> Result<Lsn, SpaceFault> {
+        records::save(&mut self.acts, txn, mark)
+    }
+
+    fn undo_step_to(
+        &mut self,
+        txn: TxnId,
+        stop: Lsn,
+        into: &mut UndoNote,
+    ) -> Result<Option<Lsn>, SpaceFault> {
+        undoing::undo_step_to(&mut self.acts, txn, stop, into)
+    }
+
+    fn wants_page(&self, note: &UndoNote) -> bool {
+        undoing::wants_page(note)
+    }
+}
+
 impl<E: Engine> sg_store::Truncates for Paged<E> {
     ghost first_frame_end = { λ s. E.first_frame_end s.acts.engine };
 

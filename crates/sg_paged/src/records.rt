@@ -1,12 +1,12 @@
 // The records of a transaction that are outside of its actions.
 ghost use Rattle.std.specs.Prelude.{◌≡◌, ◌≤◌, ◌<◌, ◌+◌, ℕ, IfOk, IfErr, OnOk};
-ghost use Rattle.sg_recovery.specs.Log.Record.{Begin, Commit};
-ghost use Rattle.sg_store.specs.Engine.{Keeps, AsMeant, Asked, IsEngine, IsIdle, HasPlace, IsAt, MayEnd, Appends, Appended, EndsOne, Counts, IsDiskFault, IsNearEnd};
+ghost use Rattle.sg_recovery.specs.Log.Record.{Begin, Save, Commit};
+ghost use Rattle.sg_store.specs.Engine.{Keeps, AsMeant, Asked, IsEngine, IsIdle, HasPlace, IsAt, IsMark, MayEnd, Appends, Appended, EndsOne, Counts, IsDiskFault, IsNearEnd};
 ghost use Rattle.sg_shown.specs.Shown.{shown};
 
 use crate::resting::quiet;
 use sg_actions::{Acts, Engine};
-use sg_base::TxnId;
+use sg_base::{Lsn, TxnId};
 use sg_space::SpaceFault;
 
 /// A transaction begins, whose number is that of its begin record. One that has committed leaves its place for
@@ -23,6 +23,23 @@ pub fn begin<E: Engine>(acts: &mut Acts<E>) -> Result<TxnId, SpaceFault>
 {
     quiet(acts);
     acts.begin()
+}
+
+/// Sets a mark of a live transaction, the so many-th of those that it then has, and answers the number of its
+/// record. No page and no band changes.
+pub fn save<E: Engine>(acts: &mut Acts<E>, txn: TxnId, mark: u16) -> Result<Lsn, SpaceFault>
+    requires can { Asked (shown acts.old) (IsAt txn.0) }
+    requires mark { IsMark mark }
+    ensures counts { Counts IsDiskFault (shown acts.old) (shown acts.new) result }
+    ensures means { Keeps (shown acts.old) (shown acts.new) }
+    ensures log_end { IfErr result (IsNearEnd (shown acts.old).tail) }
+    ensures saves { AsMeant (shown acts.old) (shown acts.new) (λ t g v w. IsEngine t g v → IsIdle v
+        → (lsn : ℕ) × (previous : ℕ) × Appends t g v w (record { lsn = lsn; is = Save txn.0 previous mark })
+        × IfOk result (λ number. (number ≡ lsn)
+        × Appended t g v w (record { lsn = lsn; is = Save txn.0 previous mark }))) }
+{
+    quiet(acts);
+    acts.save(txn, mark)
 }
 
 /// Commits a live transaction, and makes the log durable. Its place is free for another one then.
