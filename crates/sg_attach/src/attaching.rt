@@ -1,5 +1,5 @@
 // Opening a store as the engine under the actions.
-ghost use Rattle.std.specs.Prelude.{◌≡◌, ◌≢◌, ◌≤◌, ◌⊎◌, ℕ, false, List, IsTrue, IfOk, IfErr, MatchResult, option_map};
+ghost use Rattle.std.specs.Prelude.{◌≡◌, ◌≢◌, ◌≤◌, ◌+◌, ◌⊎◌, ℕ, false, List, IsTrue, IfOk, IfErr, OnOk, MatchResult, option_map};
 ghost use Rattle.std.specs.Bool.{OnFalse};
 ghost use Rattle.sg_base.specs.declared.area.Area.{Area};
 ghost use Rattle.sg_base.specs.declared.area.Area.TheVariants.{Home};
@@ -20,6 +20,7 @@ ghost use Rattle.sg_phys_laws.specs.States.{steps_of};
 ghost use Rattle.sg_pages.specs.Parts.{seen, stands};
 ghost use Rattle.sg_attach.specs.Ended.{end_in};
 ghost use Rattle.sg_attach.specs.Attached.{IsStoreImage, IsSomeStoreImage, IsAttaching, IsExtentOf, unfinished_of};
+ghost use Rattle.sg_attach.specs.Repeats.{repeated_in};
 
 use sg_analysis::Analysis;
 use sg_base::Steps;
@@ -101,6 +102,9 @@ pub fn attach<D: Presumed, L: Ledger>(
     // No byte is handed over but to the home area: where its log ends is shown by where that of the image did.
     ensures kept { MatchResult result (λ made. (D.view disk).handed ≤ (D.view made.pages.engine.disk).handed) (λ not. (D.view disk).handed ≤ (D.view not.disk).handed) }
     ensures shown { IsTrue D.told → IfOk result (λ made. IsShownEnd (D.view disk) (D.view made.pages.engine.disk) (end_in (reads (D.view disk))) made.pages.engine.log.gate) }
+    // History is repeated from the redo point on alone: each record from there on that makes a change is one step.
+    ensures repeats { let t = table_of record_meaning range_meaning ops.now in (log : Log) (x : State) → IsTrue D.told → RecoversBy t (reads (D.view disk)) log x →
+        OnOk result (steps.new ≡ steps.old + repeated_in (reads (D.view disk))) }
     // At each moment, where it succeeds and where it doesn't: until all areas are synced an image is one that could have been
     // left before, and from then on one of the store that was read. Where the syncs fail nothing else is done.
     ensures attached { let t = table_of record_meaning range_meaning ops.now in IsTrue D.told →

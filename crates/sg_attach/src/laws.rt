@@ -1,5 +1,5 @@
 // What an image of a store is opened as.
-ghost use Rattle.std.specs.Prelude.{◌≡◌, ◌≤◌, [], ℕ, List};
+ghost use Rattle.std.specs.Prelude.{◌≡◌, ◌≤◌, ◌++◌, [], ℕ, List};
 ghost use Rattle.sg_base.specs.declared.area.Area.{Area};
 ghost use Rattle.sg_disk.specs.Disk.{Image, View, Leaves, LeavesOnly};
 ghost use Rattle.sg_log.specs.Frames.{Numbered};
@@ -24,6 +24,14 @@ ghost use Rattle.sg_phys_laws.specs.Poised.{AreSaid, IsPoised};
 ghost use Rattle.sg_phys_laws.specs.Recovers.{cut_at, origin_of, records_in, point_in, IsSoundImage, RecoversBy};
 ghost use Rattle.sg_phys_laws.specs.States.{AllAgree, state_of, steps_of};
 ghost use Rattle.sg_attach.specs.Attached.{IsStoreImage, IsAttaching};
+ghost use Rattle.sg_attach.specs.Repeats.{repeated_in, records_from, LastMarked, IsLastOf};
+ghost use Rattle.sg_engine.specs.Engine.{IsStanding};
+ghost use Rattle.sg_pages.specs.Marks.{ImageEnds};
+ghost use Rattle.sg_pages.specs.Parts.{seen};
+ghost use Rattle.sg_phys_laws.specs.Reading.{durable_in, waiting_in};
+
+use sg_disk::Presumed;
+use sg_pages::Phys;
 
 /// A law: an image of a store can be opened, with the records of its log over its own home area; these
 /// make of it what the steps make of what the store first said; and what is opened so is the engine
@@ -64,3 +72,21 @@ pub fn images_are_undamaged()
 pub fn none_is_unknown()
     ensures { (t : Table) (c : Image) (log : Steps) (x : State) (code : ℕ) → RecoversBy t c log x → IsCause t c (UnknownOperation code) → ⊥ }
 {}
+
+/// A law: an opening repeats no more records of an image than its log holds from where the last checkpoint has redo begin. A
+/// checkpoint that is the last record of a log is its last checkpoint. An image that stands for records, as each image of each moment
+/// of a call of the page engine does, keeps the last checkpoint of those that were durable, where none was appended behind them.
+pub fn checkpoints_bound_openings()
+    ensures most { (c : Image) (lsn estimate : ℕ) → LastMarked c lsn estimate → repeated_in c ≤ records_from estimate c }
+    ensures ends { (c : Image) (lsn estimate : ℕ) → ImageEnds c lsn estimate → LastMarked c lsn estimate }
+    ensures stands { (o : Origin) (ds all : List Numbered) (k : ℕ) (c : Image) (lsn estimate : ℕ) → IsStanding o ds all k c → IsLastOf ds all lsn estimate → LastMarked c lsn estimate }
+{}
+
+/// A law: as long as the last checkpoint of a store's log is durable, it is the last one of each image that a crash leaves.
+pub fn images_keep_checkpoints<D: Presumed>(pages: &Phys<D>)
+    ensures { (seen D.told D.presumed D.view pages.now).Told → (c : Image) (lsn estimate : ℕ) → Leaves (D.view pages.now.engine.disk).now c
+        → IsLastOf (durable_in (D.view pages.now.engine.disk) pages.now.engine.log) (durable_in (D.view pages.now.engine.disk) pages.now.engine.log ++ waiting_in pages.now.engine.log) lsn estimate
+        → LastMarked c lsn estimate }
+{
+    let _pages = pages;
+}

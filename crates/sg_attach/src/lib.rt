@@ -11,5 +11,6 @@ mod laws;
 
 pub use attaching::{AttachedStore, attach};
 pub use laws::{
-    images_are_undamaged, images_attach, none_is_unknown, opening_keeps, standing_is_of,
+    checkpoints_bound_openings, images_are_undamaged, images_attach, images_keep_checkpoints,
+    none_is_unknown, opening_keeps, standing_is_of,
 };

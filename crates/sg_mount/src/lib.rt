@@ -15,6 +15,6 @@ mod making;
 mod opening;
 
 pub use fault::{MountFault, Unmounted};
-pub use laws::images_open;
+pub use laws::{flushed_checkpoints, images_open};
 pub use making::init_store;
 pub use opening::{FoundStore, find_store, open_store};

@@ -1,9 +1,11 @@
 // Opening a store of objects on a disk.
-ghost use Rattle.std.specs.Prelude.{◌≡◌, ◌⊎◌, IfOk, IfErr, MatchResult, IsTrue};
+ghost use Rattle.std.specs.Prelude.{◌≡◌, ◌⊎◌, ◌+◌, IfOk, IfErr, OnOk, MatchResult, IsTrue};
+ghost use Rattle.sg_attach.specs.Repeats.{repeated_in};
 ghost use Rattle.sg_find.specs.Synced.{reads};
+ghost use Rattle.sg_model.specs.Objects.{Objects as Model};
 ghost use Rattle.sg_ops.specs.Table.{table_of};
 ghost use Rattle.sg_store.specs.Seen.{core_of, Serves};
-ghost use Rattle.sg_mount.specs.Opening.{AreShut, HasOpenedOn, IsFoundOn, IsHandedBack, StandsAsPresumed, of_opening, of_start, opened_by, shown_by};
+ghost use Rattle.sg_mount.specs.Opening.{AreShut, HasOpenedOn, ImageStandsFor, IsFoundOn, IsHandedBack, StandsAsPresumed, of_opening, of_start, opened_by, shown_by};
 
 use crate::fault::{MountFault, Unmounted};
 use crate::losers::numbers_of;
@@ -81,6 +83,9 @@ pub fn find_store<D: Presumed, L: Ledger>(
     requires stands { let t = table_of record_meaning range_meaning ops.now in StandsAsPresumed t D.told D.presumed (reads (D.view disk)) }
     ensures found { let t = table_of record_meaning range_meaning ops.now in IfOk result (λ f. IsFoundOn t D.told D.presumed (D.view disk) f.losers.items (opened_by f.engine)) }
     ensures refused { let t = table_of record_meaning range_meaning ops.now in IfErr result (λ u. IsHandedBack t D.told D.presumed (D.view disk) (D.view u.disk) u.fault) }
+    // Each record of the image's log from its redo point on that makes a change is one step.
+    ensures repeats { let t = table_of record_meaning range_meaning ops.now in (m : Model) → IsTrue D.told → ImageStandsFor t (reads (D.view disk)) m →
+        OnOk result (steps.new ≡ steps.old + repeated_in (reads (D.view disk))) }
     // Where neither gate is open it is refused, and for that alone.
     ensures shut { IsTrue D.told → AreShut (D.view disk) → MatchResult result (λ f. ⊥) (λ u. (u.fault ≡ MountFault.NotAStore) ⊎ (u.fault ≡ MountFault.Disk)) }
 {
@@ -126,6 +131,9 @@ pub fn open_store<D: Presumed, L: Ledger>(
     ensures serves { let t = table_of record_meaning range_meaning ops.now in IfOk result (λ s. Serves t s) }
     ensures opened { let t = table_of record_meaning range_meaning ops.now in IfOk result (λ s. HasOpenedOn t D.told D.presumed (D.view disk) (core_of s) (shown_by s)) }
     ensures refused { let t = table_of record_meaning range_meaning ops.now in IfErr result (λ u. IsHandedBack t D.told D.presumed (D.view disk) (D.view u.disk) u.fault) }
+    // Each record of the image's log from its redo point on that makes a change is one step.
+    ensures repeats { let t = table_of record_meaning range_meaning ops.now in (m : Model) → IsTrue D.told → ImageStandsFor t (reads (D.view disk)) m →
+        OnOk result (steps.new ≡ steps.old + repeated_in (reads (D.view disk))) }
     // Where neither gate is open it is refused, and for that alone.
     ensures shut { IsTrue D.told → AreShut (D.view disk) → MatchResult result (λ s. ⊥) (λ u. (u.fault ≡ MountFault.NotAStore) ⊎ (u.fault ≡ MountFault.Disk)) }
 {

@@ -17,6 +17,7 @@ use Rattle.sg_attach.proofs.Undamaged.{attach_undamaged}
 use Rattle.sg_gate.specs.declared.superblock.Super.{Super}
 use Rattle.sg_attach.proofs.Analysed.{accepted_super, log_formed, log_last, log_losers, log_unfinished}
 use Rattle.sg_attach.proofs.Attached.{attach_some, attach_stands, attach_steps, attach_durable, attach_based, attach_below, attach_pages, attach_bands, attach_moments, attach_refused, below_prop, nat_set, waits_empty}
+use Rattle.sg_attach.proofs.Repeats.{opening_steps}
 use Rattle.sg_attach.proofs.attaching.attach.Goals as goal
 
 -- what was opened isn't refused
@@ -170,3 +171,7 @@ returns-in-Err-clause-failed g c is =
 
 pub returns-in-Ok-clause-shut : goal.returns-in-Ok-clause-shut
 returns-in-Ok-clause-shut g c is first second = opened_or c.open.result c.in-Ok.is (c.open.ensures.shut is first second)
+
+pub returns-in-Ok-clause-repeats : goal.returns-in-Ok-clause-repeats
+returns-in-Ok-clause-repeats g c rs x is r =
+    opening_steps _ (g.D.Disk.view c.args.disk) c.args.steps.now c.open.new.steps (λ q tail ds does opens. c.in-Ok.ensures.steps q tail ds is does opens) rs x r

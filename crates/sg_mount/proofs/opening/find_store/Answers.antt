@@ -126,3 +126,6 @@ returns-in-Ok-found-clause-found g c =
     (subst (λ x. v.handed ≤ (view x.engine.disk).handed) e c.in-Ok.ensures.kept)
     (λ is. subst (λ x. IsShownEnd v (view x.engine.disk) (end_in i) x.gate) e
     (subst (λ (n : ℕ). IsShownEnd v (view pages.engine.disk) (end_in i) n) (sym (pages.gates c.in-Ok.ensures.whole)) (c.in-Ok.ensures.shown is)))
+
+pub returns-in-Ok-found-clause-repeats : goal.returns-in-Ok-found-clause-repeats
+returns-in-Ok-found-clause-repeats g c m is h = c.in-Ok.ensures.repeats h.log h.pages is h.recovers.image

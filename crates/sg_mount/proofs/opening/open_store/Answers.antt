@@ -44,3 +44,6 @@ returns-in-Ok-attach-clause-shut g c is shut = c.in-Ok.ensures.shut is shut
 
 pub returns-clause-shut : goal.returns-clause-shut
 returns-clause-shut g c is shut = absurd (c.in-Ok.ensures.shut is shut)
+
+pub returns-in-Ok-attach-clause-repeats : goal.returns-in-Ok-attach-clause-repeats
+returns-in-Ok-attach-clause-repeats g c m is h = c.in-Ok.ensures.repeats m is h
