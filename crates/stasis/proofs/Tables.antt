@@ -4,28 +4,27 @@ use Rattle.std.specs.Prelude.{◌==◌, nat_lt}
 use Rattle.std.specs.FinMap.{get, insert, remove, empty}
 use Rattle.std.specs.Str.{bytes_eq}
 use Rattle.sg_ops.specs.Table.{Table as Operations}
-use Rattle.sg_model.specs.declared.reason.Reason.TheVariants.{OutOfRange, TooLong, Exists}
+use Rattle.sg_model.specs.declared.reason.Reason.TheVariants.{OutOfRange, TooLong}
 use Rattle.sg_model.specs.Objects.{Entries, Object, Objects}
 use Rattle.sg_model.specs.Objects.Object.{Table}
 use Rattle.sg_model.specs.Verb.{Outcome, Verb}
 use Rattle.sg_model.specs.Verb.Op.{On}
-use Rattle.sg_model.specs.Verb.Reply.{Done, Absent, Bytes}
 use Rattle.sg_model.specs.Verb.Verb.{MakeTable, Put, Del, Find}
 use Rattle.sg_model.specs.Step.{step, on, put_at, at_key, put_value, put_reply, del_value, found, Update, updated, make}
-use Rattle.sg_model.specs.Step.Update.{Stays, Becomes, Goes}
+use Rattle.sg_model.specs.Step.Update.{Stays, Becomes}
 use Rattle.sg_model.proofs.Parts.{bytes_self}
 use Rattle.sg_model.proofs.Footprint.{get_put_at}
 use Rattle.stasis.specs.Tables.{AreMaps, HasTable, Makes, Puts, Takes, Finds}
 
 -- what was put under a name is there, and under no other
-there : (s : Objects) (name : List ℕ) (o : Option Object) → get (put_at s name o) name ≡ o
+pub there : (s : Objects) (name : List ℕ) (o : Option Object) → get (put_at s name o) name ≡ o
 there s name o = get_put_at s name o name ∙ ap (λ b. cond b o (get s name)) (bytes_self name)
 
 elsewhere : (s : Objects) (name other : List ℕ) (o : Option Object) → bytes_eq other name ≡ false → get (put_at s other o) name ≡ get s name
 elsewhere s name other o apart = get_put_at s other o name ∙ ap (λ b. cond b o (get s name)) apart
 
 -- a verb on a table, by what it makes of one
-on_there : (t : Operations) (s : Objects) (name : List ℕ) (verb : Verb) (o : Option Object) (P : Outcome → Objects → Type 0) → get s name ≡ o
+pub on_there : (t : Operations) (s : Objects) (name : List ℕ) (verb : Verb) (o : Option Object) (P : Outcome → Objects → Type 0) → get s name ≡ o
     → (let r = on t verb o in P r.0 (put_at s name r.1)) → (let r = step t s (On name verb) in P r.0 r.1)
 unfolding step
 on_there t s name verb o P is h = subst (λ x. let r = on t verb x in P r.0 (put_at s name r.1)) (sym is) h
@@ -54,9 +53,13 @@ module _ (t : Operations) (s : Objects) (name : List ℕ) where
         (by_key m key (put_value value) (λ o n. Puts name m key value o (put_at s name (Some (Table n)))) (there s name (Some (Table m))) (there s name (Some (Table m)))
         (go (nat_lt 1024 (length value))))
       where
+        had : (o : Option (List ℕ)) → get m key ≡ o → Puts name m key value (Ok (put_reply o)) (put_at s name (Some (Table (insert m key value))))
+        had None e = (e, there s name (Some (Table (insert m key value))))
+        had (Some old) e = ((old, e), there s name (Some (Table (insert m key value))))
+
         go : (b : Bool) → (let r = cond {A = Outcome × Update} b (Err TooLong, Stays) (Ok (put_reply (get m key)), Becomes value) in Puts name m key value r.0 (put_at s name (Some (Table (updated m key r.1)))))
         go true = there s name (Some (Table m))
-        go false = there s name (Some (Table (insert m key value)))
+        go false = had (get m key) refl
 
     taken : let r = step t s (On name (Del key)) in Takes name m key r.0 r.1
     taken = on_there t s name (Del key) (Some (Table m)) (Takes name m key) is

@@ -1,4 +1,5 @@
 -- This crate's own
+pub mod Arrays
 pub mod Tables
 pub mod Telling
 -- What the clauses of what it hands on speak of

@@ -8,7 +8,7 @@ use Rattle.sg_model.specs.Objects.{Entries, Objects}
 use Rattle.sg_model.specs.Objects.Object.{Table}
 use Rattle.sg_model.specs.Verb.{Outcome, Verb}
 use Rattle.sg_model.specs.Verb.Op.{On}
-use Rattle.sg_model.specs.Verb.Reply.{Done, Absent, Bytes}
+use Rattle.sg_model.specs.Verb.Reply.{Absent, Bytes, Done, New, Replaced}
 use Rattle.sg_model.specs.Verb.Verb.{MakeTable, Put, Del, Find}
 use Rattle.sg_model.specs.Step.{step}
 
@@ -21,9 +21,11 @@ abbrev pub Makes : List ℕ → Outcome → Objects → Type 0
 Makes name (Ok reply) after = HasTable after name empty
 Makes name (Err reason) after = Unit {0}
 
--- a value is put under a key, or the table is as it was
+-- a value is put under a key, and it is answered whether the key had one, or the table is as it was
 abbrev pub Puts : List ℕ → Entries → (key value : List ℕ) → Outcome → Objects → Type 0
-Puts name entries key value (Ok reply) after = HasTable after name (insert entries key value)
+Puts name entries key value (Ok New) after = (get entries key ≡ None) × HasTable after name (insert entries key value)
+Puts name entries key value (Ok Replaced) after = ((old : List ℕ) × (get entries key ≡ Some old)) × HasTable after name (insert entries key value)
+Puts name entries key value (Ok other) after = ⊥
 Puts name entries key value (Err reason) after = HasTable after name entries
 
 -- a key is taken out, where it is there, or the table is as it was
@@ -44,7 +46,10 @@ Finds name entries key (Err reason) after = HasTable after name entries
 -- object leaves each other one
 pub record AreMaps (t : Operations) : Type 0 where
   pub made : (s : Objects) (name : List ℕ) → let r = step t s (On name MakeTable) in Makes name r.0 r.1
-  pub put : (s : Objects) (name : List ℕ) (entries : Entries) (key value : List ℕ) → HasTable s name entries → let r = step t s (On name (Put key value)) in Puts name entries key value r.0 r.1
-  pub taken : (s : Objects) (name : List ℕ) (entries : Entries) (key : List ℕ) → HasTable s name entries → let r = step t s (On name (Del key)) in Takes name entries key r.0 r.1
-  pub found : (s : Objects) (name : List ℕ) (entries : Entries) (key : List ℕ) → HasTable s name entries → let r = step t s (On name (Find key)) in Finds name entries key r.0 r.1
+  pub put : (s : Objects) (name : List ℕ) (entries : Entries) (key value : List ℕ) → HasTable s name entries
+      → let r = step t s (On name (Put key value)) in Puts name entries key value r.0 r.1
+  pub taken : (s : Objects) (name : List ℕ) (entries : Entries) (key : List ℕ) → HasTable s name entries → let r = step t s (On name (Del key)) in
+      Takes name entries key r.0 r.1
+  pub found : (s : Objects) (name : List ℕ) (entries : Entries) (key : List ℕ) → HasTable s name entries → let r = step t s (On name (Find key)) in
+      Finds name entries key r.0 r.1
   pub apart : (s : Objects) (name other : List ℕ) (verb : Verb) → bytes_eq other name ≡ false → get (step t s (On other verb)).1 name ≡ get s name

@@ -3,7 +3,8 @@
 //! It stands on `sg_mount`, which makes and opens a store over any disk, on `sg_store`, whose calls are what is done with one, and on
 //! `sg_folder`, which is the disk that keeps it. It promises what these promise. In its own words it adds what is known of a store over a disk
 //! that tells its contents (`TellsObjects`), from its opening on (`open_store`), behind each call of a transaction (`begin_transaction`,
-//! `perform_operation`, `end_transaction`) and at its close (`close_store`), and what operations on a table come to (`tables_are_maps`); and one error
+//! `perform_operation`, `end_transaction`) and at its close (`close_store`), and what operations on a table and on an array come to
+//! (`tables_are_maps`, `arrays_are_lists`); and one error
 //! with words for each refusal (`StoreError`).
 //!
 //! The order of use: register operations (`Ops::shipped`, `register_record`), make a store once (`init_store`), open it (`open_store`), and
@@ -30,7 +31,7 @@ mod transaction;
 pub use calls::{begin_transaction, perform_operation};
 pub use closing::{close_store, crash_leaves_durable};
 pub use error::StoreError;
-pub use laws::tables_are_maps;
+pub use laws::{arrays_are_lists, tables_are_maps};
 pub use sg_base::{Area, Failed, Name, OutOfMemory, TxnId};
 pub use sg_bucket::Bytes;
 pub use sg_disk::{Call, CallKind, Disk, Fuse, MemDisk, Presumed};
