@@ -343,7 +343,7 @@ fn opened<'a, L: Ledger>(
     ops: &Ops,
     steps: &mut Steps<L>,
 ) -> Option<Engine<'a>> {
-    match attach(rt.alloc(), FolderDisk::new(rt, path), ops, steps) {
+    match attach(rt, rt.alloc(), FolderDisk::new(rt, path), ops, steps) {
         Ok(
             AttachedStore {
                 pages,

@@ -35,6 +35,7 @@ use sg_reopen::Unopened;
 use std::alloc::Global;
 use std::snapshot::Snapshot;
 use std::sync::ledger::Ledger;
+use std::thread::Threads;
 
 /// What an opening gives: a store's pages and bands with its log, how many there are, and what its log says of
 /// transactions.
@@ -50,7 +51,8 @@ pub struct AttachedStore<D: Presumed> {
 /// operations. Nothing else is asked: what `Phys` promises of each image that a crash leaves is that, so any
 /// life may follow any other. On any other disk it is safe, and says why it refused. A refusal hands the disk back,
 /// as opening left it.
-pub fn attach<D: Presumed, L: Ledger>(
+pub fn attach<R: Threads + Sync, D: Presumed, L: Ledger>(
+    rt: &R,
     alloc: Global,
     disk: D,
     ops: &Ops,
@@ -115,7 +117,7 @@ pub fn attach<D: Presumed, L: Ledger>(
     let found = Snapshot::of(&disk);
     let mut disk = disk;
     ops.laws();
-    match open(alloc, &mut disk, ops, steps) {
+    match open(rt, alloc, &mut disk, ops, steps) {
         Ok(
             Opened {
                 geometry,

@@ -21,6 +21,7 @@ use sg_store::Store;
 use std::alloc::Global;
 use std::marker::Brand;
 use std::sync::ledger::{Blank, Ledger};
+use std::thread::Threads;
 
 // Why a store isn't opened, in the program's words.
 fn refused(fault: MountFault) -> OpenRefused
@@ -47,7 +48,8 @@ fn not_made(fault: InitFault) -> InitRefused
 }
 
 // Opens a store, and counts its steps for no one.
-fn open_with<D: Presumed, L: Ledger>(
+fn open_with<R: Threads + Sync, D: Presumed, L: Ledger>(
+    rt: &R,
     alloc: Global,
     ops: &Ops,
     disk: D,
@@ -62,7 +64,7 @@ fn open_with<D: Presumed, L: Ledger>(
     ensures refused { IfErr result (λ u. IsHandedBack (table_of record_meaning range_meaning ops.now) D.told D.presumed (D.view disk) (D.view u.disk) u.fault) }
 {
     let mut steps = Steps::<L>::open(blank);
-    open_store(alloc, ops, disk, &mut steps)
+    open_store(rt, alloc, ops, disk, &mut steps)
 }
 
 // The numbers that a store of these sizes is made with.
@@ -95,8 +97,13 @@ impl<D: Presumed> Opens<D> for Paged<Phys<D>> {
 
     ghost one = { λ t c m other h k. one_collection (basis_at RecoversBy (sizes_in c)) (one_log_sized (sizes_in c)) t c m other h k };
 
-    fn open(alloc: Global, ops: &Ops, disk: D) -> Result<Store<Self>, Unopened<D>> {
-        match open_with::<D, Brand>(alloc, ops, disk, Blank::new(1)) {
+    fn open<R: Threads + Sync>(
+        rt: &R,
+        alloc: Global,
+        ops: &Ops,
+        disk: D,
+    ) -> Result<Store<Self>, Unopened<D>> {
+        match open_with::<R, D, Brand>(rt, alloc, ops, disk, Blank::new(1)) {
             Ok(store) => Ok(store),
             Err(Unmounted { disk, fault }) => {
                 let why = refused(fault);

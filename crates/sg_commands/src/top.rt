@@ -32,6 +32,7 @@ use sg_session::{Names, Session};
 use sg_words::{Answer, write_answer};
 use sg_workload::write_workload;
 use std::alloc::Global;
+use std::thread::Threads;
 
 /// What a command leaves: its status, the disk, and how many of its calls the stop refused. A count
 /// of 2^64 - 1 stays.
@@ -86,7 +87,15 @@ fn make_rooms(alloc: Global) -> Result<Rooms, OutOfMemory>
 }
 
 // Runs the script over the disk, which makes so many calls at most where a number is given.
-fn run_behind_fuse<D: Disk, S: Source, K: Sink, O: Origin + Presumes, E: Opens<Fuse<D, O>>>(
+fn run_behind_fuse<
+    R: Threads + Sync,
+    D: Disk,
+    S: Source,
+    K: Sink,
+    O: Origin + Presumes,
+    E: Opens<Fuse<D, O>>,
+>(
+    rt: &R,
     alloc: Global,
     ops: &Ops,
     disk: D,
@@ -115,7 +124,7 @@ fn run_behind_fuse<D: Disk, S: Source, K: Sink, O: Origin + Presumes, E: Opens<F
     let mut piece = piece;
     let mut room = room;
     let fuse = Fuse::<D, O>::marked(disk, calls);
-    let store = match E::open(alloc, ops, fuse) {
+    let store = match E::open(rt, alloc, ops, fuse) {
         Ok(store) => store,
         Err(Unopened { why, disk }) => {
             let status = status_of_refusal(why);
@@ -242,13 +251,13 @@ fn list_beside<D: Disk, K: Sink>(alloc: Global, disk: D, out: &mut K) -> Finish<
 }
 
 // Writes what is asked for of the objects of the disk's store, which is opened for that and closed behind it.
-fn objects_behind_fuse<D: Disk, K: Sink, O: Origin + Presumes, E: Opens<Fuse<D, O>>>(
-    alloc: Global,
-    ops: &Ops,
-    disk: D,
-    listing: Listing,
-    out: &mut K,
-) -> Finish<D>
+fn objects_behind_fuse<
+    R: Threads + Sync,
+    D: Disk,
+    K: Sink,
+    O: Origin + Presumes,
+    E: Opens<Fuse<D, O>>,
+>(rt: &R, alloc: Global, ops: &Ops, disk: D, listing: Listing, out: &mut K) -> Finish<D>
     requires known { IsTrue O.known }
     requires passes { O.passes ≡ None }
     requires began { O.calls ≡ (D.view disk).calls }
@@ -260,7 +269,7 @@ fn objects_behind_fuse<D: Disk, K: Sink, O: Origin + Presumes, E: Opens<Fuse<D, 
     ensures spent { Spent None (D.view disk).calls (D.view result.disk).calls result.refused }
 {
     let fuse = Fuse::<D, O>::marked(disk, None);
-    let opened = match E::open(alloc, ops, fuse) {
+    let opened = match E::open(rt, alloc, ops, fuse) {
         Ok(store) => store,
         Err(Unopened { why, disk }) => {
             let status = status_of_refusal(why);
@@ -288,7 +297,15 @@ fn objects_behind_fuse<D: Disk, K: Sink, O: Origin + Presumes, E: Opens<Fuse<D, 
 ///
 /// A type `O` stands for what the stop lets pass, for the disk's counts at the call, and for what is presumed of
 /// the disk, so that what it holds is known: that the image which reads give at the call stands for objects.
-pub fn serve<D: Disk, S: Source, K: Sink, O: Origin + Presumes, E: Opens<Fuse<D, O>>>(
+pub fn serve<
+    R: Threads + Sync,
+    D: Disk,
+    S: Source,
+    K: Sink,
+    O: Origin + Presumes,
+    E: Opens<Fuse<D, O>>,
+>(
+    rt: &R,
     alloc: Global,
     ops: Ops,
     words: &[String],
@@ -334,14 +351,14 @@ pub fn serve<D: Disk, S: Source, K: Sink, O: Origin + Presumes, E: Opens<Fuse<D,
 {
     match read_command(alloc, words) {
         Ok(Command::Run { stop_after }) => {
-            run_behind_fuse::<D, S, K, O, E>(alloc, &ops, disk, stop_after, script, out)
+            run_behind_fuse::<R, D, S, K, O, E>(rt, alloc, &ops, disk, stop_after, script, out)
         }
         Ok(Command::Init { geometry }) => init::<D, S, K, O, E>(alloc, disk, geometry, script, out),
         Ok(Command::Dump) => {
-            objects_behind_fuse::<D, K, O, E>(alloc, &ops, disk, Listing::Text, out)
+            objects_behind_fuse::<R, D, K, O, E>(rt, alloc, &ops, disk, Listing::Text, out)
         }
         Ok(Command::Check) => {
-            objects_behind_fuse::<D, K, O, E>(alloc, &ops, disk, Listing::Summary, out)
+            objects_behind_fuse::<R, D, K, O, E>(rt, alloc, &ops, disk, Listing::Summary, out)
         }
         Ok(Command::Log) => list_beside(alloc, disk, out),
         Ok(Command::Gen { seed, count }) => {

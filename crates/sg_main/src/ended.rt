@@ -23,6 +23,7 @@ use std::alloc::Global;
 use std::io::{self, Eprint, ErrorKind};
 use std::marker::Model;
 use std::process::{ExitCode, Termination};
+use std::thread::Threads;
 
 /// How the program ended, which contracts see as its status. One is made by a run alone, of the status
 /// with which `stasis` ended, or where the words of the process couldn't be had. `main` answers one, so
@@ -43,7 +44,8 @@ impl Model for Ended {
 impl Ended {
     /// Does what the words say over this disk, with the shipped operations, and answers how it ended beside
     /// all that `stasis` left. Without the memory for these no run begins.
-    pub fn of_run<D: Disk, S: Source, K: Sink>(
+    pub fn of_run<R: Threads + Sync, D: Disk, S: Source, K: Sink>(
+        rt: &R,
         alloc: Global,
         words: &[String],
         disk: D,
@@ -69,7 +71,7 @@ impl Ended {
         ensures spent { Spent (stop_after words.now) (D.view disk).calls (D.view result.1.disk).calls result.1.refused }
     {
         match Ops::shipped(alloc) {
-            Ok(ops) => Ended::of_shipped(alloc, ops, words, disk, script, out),
+            Ok(ops) => Ended::of_shipped(rt, alloc, ops, words, disk, script, out),
             Err(_) => Ended::beside(Finish {
                 status: Status::Memory,
                 disk,
@@ -79,7 +81,8 @@ impl Ended {
     }
 
     // The same with operations that are the shipped ones.
-    fn of_shipped<D: Disk, S: Source, K: Sink>(
+    fn of_shipped<R: Threads + Sync, D: Disk, S: Source, K: Sink>(
+        rt: &R,
         alloc: Global,
         ops: Ops,
         words: &[String],
@@ -105,7 +108,7 @@ impl Ended {
         ensures heeded { (result.1.status ≡ Status.Disk → ⊥) → ((D.view result.1.disk).faults ≡ (D.view disk).faults) × (result.1.refused ≡ 0) }
         ensures spent { Spent (stop_after words.now) (D.view disk).calls (D.view result.1.disk).calls result.1.refused }
     {
-        Ended::beside(stasis(alloc, ops, words, disk, script, out))
+        Ended::beside(stasis(rt, alloc, ops, words, disk, script, out))
     }
 
     // How a command ended, beside what it left.

@@ -76,12 +76,12 @@ fn run_over<S: Source>(
     match folder {
         Some(path) => {
             let disk = FolderDisk::new(rt, path);
-            let (ended, _) = Ended::of_run(rt.alloc(), words, disk, source, &mut out);
+            let (ended, _) = Ended::of_run(rt, rt.alloc(), words, disk, source, &mut out);
             ended
         }
         None => {
             let disk = FolderDisk::<HostRuntime>::none();
-            let (ended, _) = Ended::of_run(rt.alloc(), words, disk, source, &mut out);
+            let (ended, _) = Ended::of_run(rt, rt.alloc(), words, disk, source, &mut out);
             ended
         }
     }

@@ -23,6 +23,7 @@ use sg_starting::{StartFault, Unstarted};
 use sg_store::Store;
 use std::alloc::Global;
 use std::sync::ledger::Ledger;
+use std::thread::Threads;
 
 /// A store, before what an action did that has no end is taken off: its engine, and the transactions that go on.
 pub struct FoundStore<E> {
@@ -74,7 +75,8 @@ fn unmounted<D: Presumed>(pages: Phys<D>) -> Unmounted<D>
 /// Where the disk tells, and what is presumed of it holds, the image that reads give stands for some
 /// objects: nothing else is asked. On any other disk it is safe, returns, and says why it refused. A refusal hands
 /// the disk back, as opening left it.
-pub fn find_store<D: Presumed, L: Ledger>(
+pub fn find_store<R: Threads + Sync, D: Presumed, L: Ledger>(
+    rt: &R,
     alloc: Global,
     ops: &Ops,
     disk: D,
@@ -89,7 +91,7 @@ pub fn find_store<D: Presumed, L: Ledger>(
     // Where neither gate is open it is refused, and for that alone.
     ensures shut { IsTrue D.told → AreShut (D.view disk) → MatchResult result (λ f. ⊥) (λ u. (u.fault ≡ MountFault.NotAStore) ⊎ (u.fault ≡ MountFault.Disk)) }
 {
-    match attach(alloc, disk, ops, steps) {
+    match attach(rt, alloc, disk, ops, steps) {
         Ok(
             AttachedStore {
                 pages,
@@ -121,7 +123,8 @@ pub fn find_store<D: Presumed, L: Ledger>(
 /// objects: nothing else is asked. The store has these objects then, and each image that a crash leaves,
 /// once all areas had been synced, stands for them, also where opening is stopped. On any other disk it is safe,
 /// returns, and says why it refused. A refusal hands the disk back, as opening left it.
-pub fn open_store<D: Presumed, L: Ledger>(
+pub fn open_store<R: Threads + Sync, D: Presumed, L: Ledger>(
+    rt: &R,
     alloc: Global,
     ops: &Ops,
     disk: D,
@@ -137,7 +140,7 @@ pub fn open_store<D: Presumed, L: Ledger>(
     // Where neither gate is open it is refused, and for that alone.
     ensures shut { IsTrue D.told → AreShut (D.view disk) → MatchResult result (λ s. ⊥) (λ u. (u.fault ≡ MountFault.NotAStore) ⊎ (u.fault ≡ MountFault.Disk)) }
 {
-    let FoundStore { engine, losers } = match find_store(alloc, ops, disk, steps) {
+    let FoundStore { engine, losers } = match find_store(rt, alloc, ops, disk, steps) {
         Ok(found) => found,
         Err(unmounted) => return Err(unmounted),
     };

@@ -30,6 +30,7 @@ use sg_ops::Ops;
 use sg_pool::Pool;
 use std::alloc::Global;
 use std::sync::ledger::Ledger;
+use std::thread::Threads;
 
 /// The running engine of a store that was opened. Its pool has to be ended.
 pub struct Opened {
@@ -52,13 +53,15 @@ fn take_pool(alloc: Global, geometry: &Super) -> Result<Pool, OpenFault>
 }
 
 /// Opens a store: what a crash left is made durable and read, an open batch is laid over, and history is
-/// repeated from the redo point on. All memory is taken before the first write, and none of it is for
-/// the whole log: that is read three times, first frame by frame and then in stretches.
+/// repeated from the redo point on, of pages many at a time, in threads. All memory that it needs is taken before the first write, and none
+/// of it is for the whole log: that is read three times, first frame by frame and then in stretches. Where the little that threads want is
+/// refused then, pages are done one after another.
 ///
 /// Where what was read can be opened, `Ok` is a running engine: its pages and bands are what the
 /// log's records make of the home area. Until the three areas are synced a crash leaves what it could
 /// have left before, and from then on an image that stands for the same records.
-pub fn open<D: Disk, L: Ledger>(
+pub fn open<R: Threads + Sync, D: Disk, L: Ledger>(
+    rt: &R,
     alloc: Global,
     disk: &mut D,
     ops: &Ops,
@@ -122,6 +125,7 @@ pub fn open<D: Disk, L: Ledger>(
     };
     let point = geometry.base.max(analysis.estimate);
     match repeat(
+        rt,
         disk,
         &geometry,
         point,

@@ -27,6 +27,7 @@ use sg_places::collect;
 use sg_pool::{Pool, PoolFault};
 use sg_redo::{Place, are_known};
 use std::sync::ledger::Ledger;
+use std::thread::Threads;
 
 // The refusal of a pool.
 fn of_pool(fault: PoolFault) -> OpenFault
@@ -44,7 +45,8 @@ fn of_pool(fault: PoolFault) -> OpenFault
 
 // Reads a stretch of the log from this offset of its area on, up to that of its closed gate, and
 // repeats its records from the redo point on. It answers how many bytes the stretch has.
-fn repeat_stretch<D: Disk, L: Ledger>(
+fn repeat_stretch<R: Threads + Sync, D: Disk, L: Ledger>(
+    rt: &R,
     disk: &mut D,
     s: &Super,
     at: u64,
@@ -96,14 +98,15 @@ fn repeat_stretch<D: Disk, L: Ledger>(
     if !pool.can_redo(places) || !are_known(places, text, ops) {
         return Err(OpenFault::Disk);
     }
-    match pool.redo(disk, log, text, places, ops, steps) {
+    match pool.redo(rt, disk, log, text, places, ops, steps) {
         Ok(()) => Ok(size as u64),
         Err(fault) => Err(of_pool(fault)),
     }
 }
 
 // Repeats the records of the log from the redo point on, stretch by stretch.
-fn replay<D: Disk, L: Ledger>(
+fn replay<R: Threads + Sync, D: Disk, L: Ledger>(
+    rt: &R,
     disk: &mut D,
     s: &Super,
     point: Lsn,
@@ -141,7 +144,7 @@ fn replay<D: Disk, L: Ledger>(
     let mut at = 0;
     'stretches: while at < end {
         match repeat_stretch(
-            disk, s, at, end, point, log, pool, space, places, ops, steps,
+            rt, disk, s, at, end, point, log, pool, space, places, ops, steps,
         ) {
             Ok(size) => at += size,
             Err(fault) => return Err(fault),
@@ -152,11 +155,12 @@ fn replay<D: Disk, L: Ledger>(
 
 /// Lays the pages of an open batch over, and repeats the records of the log from the redo point on, on
 /// the pages and bands that they change. It reads the log in stretches, to the front of `space`, with
-/// their places in the list, and takes no memory.
+/// their places in the list. It takes no memory but what `Pool::redo` does, which repeats pages in threads.
 ///
 /// At each moment of it a crash leaves an image that stands, from the same redo point and for the
 /// same records; at its end the engine runs.
-pub fn repeat<D: Disk, L: Ledger>(
+pub fn repeat<R: Threads + Sync, D: Disk, L: Ledger>(
+    rt: &R,
     disk: &mut D,
     s: &Super,
     point: Lsn,
@@ -196,5 +200,5 @@ pub fn repeat<D: Disk, L: Ledger>(
     if let Err(fault) = lay_over(disk, s.pages) {
         return Err(of_gate(fault));
     }
-    replay(disk, s, point, log, pool, space, places, ops, steps)
+    replay(rt, disk, s, point, log, pool, space, places, ops, steps)
 }

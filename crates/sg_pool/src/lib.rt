@@ -10,7 +10,7 @@
 //! also where a call is stopped at any moment; that redo of a page, of a band or of a whole part of the
 //! log is each unit's records repeated on it, through loans that are back at the return, of a part also
 //! with many pages at once in several threads; which frame goes next; and which is the oldest change
-//! that isn't on the disk. After it is made it needs no memory: `redo_in_parallel` takes some for a
+//! that isn't on the disk. After it is made it needs no memory: `redo` takes some for a
 //! while, and does without where it is refused. No call looks for a page or a band.
 #![tactic(auto)]
 

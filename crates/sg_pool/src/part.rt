@@ -306,7 +306,7 @@ impl Pool {
     }
 
     /// Whether these may be the places of a part of the log: each is of a page or a band of the
-    /// store, and their numbers rise. `redo` and `redo_in_parallel` ask for it.
+    /// store, and their numbers rise. `redo` asks for it.
     pub fn can_redo(&self, places: &[Place]) -> bool
         ensures { IsTrue result ↔ (All (λ p. p.unit < (sizes self.now).pages + (sizes self.now).bands) places.now × AreInOrder places.now) }
     {
@@ -321,85 +321,17 @@ impl Pool {
     /// Each place is one step. No frame is lent at any return. A place at which no whole record stands
     /// that changes a unit of its sort changes nothing.
     ///
+    /// Pages are brought into frames up to 64 at a time, and then their records are repeated in at most four
+    /// threads, each page's by one of them. Bands follow, one after another. The memory for what the pages are lent as
+    /// is taken for this call. Where it is refused, or a page is in no frame any more, pages are done one after another.
+    ///
     /// What is said of the moments of the call, and of the homes behind it, holds where the part is
     /// durable: where the log's buffer is empty and each record is below its gate, as at an opening.
     ///
     /// `Damaged` comes where a page of the part that had to be read is neither a page of slots nor
     /// all 0. Each unit is as it was then, or has all of its records repeated. `Disk` comes where the
     /// disk fails, and then nothing more is known of the pool.
-    pub fn redo<D: Disk, L: Ledger>(
-        &mut self,
-        disk: &mut D,
-        log: &mut Log,
-        text: &[u8],
-        places: &mut [Place],
-        ops: &Ops,
-        steps: &mut Steps<L>,
-    ) -> Result<(), PoolFault>
-        requires within { All (λ p. p.unit < (sizes self.old).pages + (sizes self.old).bands) places.old }
-        requires order { AreInOrder places.old }
-        requires known { AreKnown (table_of record_meaning range_meaning ops.now) text.now places.old }
-        requires few { length places.old < 2 ^ 32 }
-        ensures places { IsPermutation places.old places.new }
-        ensures size { sizes self.new ≡ sizes self.old }
-        ensures backed { IsTrue D.told → log.old.area ≢ Home → Backs (sizes self.old) (D.view disk.old) self.old →
-            OnTold result (Backs (sizes self.old) (D.view disk.new) self.new) }
-        // Each page and each band is what its own records of the part make of it.
-        ensures redone { let rs = records_of (sizes self.old) (table_of record_meaning range_meaning ops.now) text.now places.old in
-            IsTrue D.told → log.old.area ≢ Home → Backs (sizes self.old) (D.view disk.old) self.old →
-            OnOk result (IsRedone (sizes self.old) rs (contents (D.view disk.old) self.old) (contents (D.view disk.new) self.new)) }
-        ensures refused { let rs = records_of (sizes self.old) (table_of record_meaning range_meaning ops.now) text.now places.old in
-            IsTrue D.told → log.old.area ≢ Home → Backs (sizes self.old) (D.view disk.old) self.old →
-            OnErr result (OnTold result (ArePartlyRedone (sizes self.old) rs (contents (D.view disk.old) self.old) (contents (D.view disk.new) self.new))) }
-        ensures homes { let rs = records_of (sizes self.old) (table_of record_meaning range_meaning ops.now) text.now places.old in
-            (ds : List Numbered) → IsTrue D.told → log.old.area ≢ Home → Backs (sizes self.old) (D.view disk.old) self.old → IsDurable (D.view disk.old) log.old ds self.old places.old →
-            OnTold result (AreHomesKnown (sizes self.old) ((D.view disk.new).now Home) rs (contents (D.view disk.old) self.old) (contents (D.view disk.new) self.new)) }
-        ensures logged { (ds : List Numbered) → IsTrue D.told → log.old.area ≢ Home → Backs (sizes self.old) (D.view disk.old) self.old → IsDurable (D.view disk.old) log.old ds self.old places.old →
-            OnTold result (IsLogged (tail_of log.old) (D.view disk.new) self.new) }
-        ensures lasts { OnOk result (AreLastsRedone (sizes self.old) places.old self.old self.new) }
-        ensures log_kept { (log.new ≡ log.old) ⊎ (log.new ≡ forced log.old) }
-        // The pins are as they were.
-        ensures pins { (f : ℕ) → lookup (nat_eq f) (uses self.new) ≡ lookup (nat_eq f) (uses self.old) }
-        ensures count { window_count self.new ≡ window_count self.old }
-        // A change that isn't on the disk is the oldest since its unit went home last.
-        ensures untouched { let rs = records_of (sizes self.old) (table_of record_meaning range_meaning ops.now) text.now places.old in
-            IsTrue D.told → log.old.area ≢ Home → Backs (sizes self.old) (D.view disk.old) self.old →
-            OnTold result (AreHomesExact (sizes self.old) ((D.view disk.old).now Home).seen ((D.view disk.new).now Home).seen rs (contents (D.view disk.old) self.old) (contents (D.view disk.new) self.new)) }
-        // The last change of a band that went home is durable.
-        ensures gone { (ds : List Numbered) → IsTrue D.told → log.old.area ≢ Home → Backs (sizes self.old) (D.view disk.old) self.old → IsDurable (D.view disk.old) log.old ds self.old places.old →
-            HaveGone log.old.gate self.old.shelf.wins self.new.shelf.wins }
-        ensures log { (ds ps : List Numbered) → IsTrue D.told → log.old.area ≢ Home → Backs (sizes self.old) (D.view disk.old) self.old → Holds (D.view disk.old) log.old ds ps →
-            OnTold result (IsSameOrForced (D.view disk.new) log.old log.new ds ps) }
-        // At each moment, faults included.
-        ensures moments { let rs = records_of (sizes self.old) (table_of record_meaning range_meaning ops.now) text.now places.old in
-            (ds : List Numbered) → IsTrue D.told → log.old.area ≢ Home → Backs (sizes self.old) (D.view disk.old) self.old → IsDurable (D.view disk.old) log.old ds self.old places.old →
-            LeavesOnly (D.view disk.old) (D.view disk.new) (IsRedoMoment (sizes self.old) (D.view disk.old) log.old ds (lasts self.old.shelf) rs (contents (D.view disk.old) self.old)) }
-        // Where a page of the part was in no frame, `Ok` says that it is a page of slots or all 0, and `Damaged` that it is neither.
-        ensures well { IsTrue D.told → log.old.area ≢ Home → Backs (sizes self.old) (D.view disk.old) self.old →
-            OnOk result ((n : ℕ) → n < (sizes self.old).pages → places_of n places.old ≢ [] → frame_holding self.old n ≡ None → IsWell ((contents (D.view disk.old) self.old).page n)) }
-        ensures faults { IfErr result (RedoFails D.told log.old.area (sizes self.old) (D.view disk.old) (D.view disk.new) self.old places.old) }
-        ensures later { (D.view disk.old).faults ≤ (D.view disk.new).faults }
-        ensures heeded { Heeds is_disk result (D.view disk.old) (D.view disk.new) }
-        ensures kept { (D.view disk.old).handed ≤ (D.view disk.new).handed }
-        ensures grown { HasGrown log.old log.new (D.view disk.old) (D.view disk.new) }
-        ensures steps { OnOk result (steps.new ≡ steps.old + length places.old) }
-        ensures fewer_steps { OnErr result ((steps.old ≤ steps.new) × (steps.new < steps.old + length places.old)) }
-    {
-        places.sort_unstable_by_key(|p| (p.unit, p.lsn));
-        self.redo_units(disk, log, text, places, ops, steps)
-    }
-
-    /// Repeats a part of the log as `redo` does, with the pages of it many at a time: it asks for the same, and leaves
-    /// and refuses the same.
-    ///
-    /// Pages are brought into frames first, up to 64 at a time, and then their records are repeated in at most four
-    /// threads, each page's by one of them. Bands follow, one after another. The memory for what the pages are lent as
-    /// is taken for this call. Where it is refused, or a page is in no frame any more, pages are done one after another.
-    ///
-    /// `Damaged` comes where a page of the part that had to be read is neither a page of slots nor
-    /// all 0. Each unit is as it was then, or has all of its records repeated. `Disk` comes where the
-    /// disk fails, and then nothing more is known of the pool.
-    pub fn redo_in_parallel<R: Threads + Sync, D: Disk, L: Ledger>(
+    pub fn redo<R: Threads + Sync, D: Disk, L: Ledger>(
         &mut self,
         rt: &R,
         disk: &mut D,

@@ -21,6 +21,7 @@ use sg_open::{Opened, open};
 use sg_ops::Ops;
 use std::alloc::Global;
 use std::sync::ledger::Ledger;
+use std::thread::Threads;
 
 /// Opens a store of which each image that a crash could leave now stands over all that was ever done
 /// to it: also where a crash came while its log was cut, so that some of them have the old superblock
@@ -31,7 +32,8 @@ use std::sync::ledger::Ledger;
 /// done, so that another crash during it is one more life's end. It refuses a store only where the
 /// disk fails, for want of memory, where no operation is registered with a code that it needs, or
 /// where the log isn't formed in full.
-pub fn reopen<D: Disk, L: Ledger>(
+pub fn reopen<R: Threads + Sync, D: Disk, L: Ledger>(
+    rt: &R,
     alloc: Global,
     disk: &mut D,
     ops: &Ops,
@@ -49,5 +51,5 @@ pub fn reopen<D: Disk, L: Ledger>(
     ensures moments { (o : Origin) (ds all : List Numbered) → IsTrue D.told → IsBy (table_of record_meaning range_meaning ops.now) o →
         ((c : Image) → Leaves (D.view disk.old).now c → StandsOver o ds all c) → LeavesOnly (D.view disk.old) (D.view disk.new) (StandsOver o ds all) }
 {
-    open(alloc, disk, ops, steps)
+    open(rt, alloc, disk, ops, steps)
 }

@@ -25,6 +25,7 @@ use sg_open::Opened;
 use sg_ops::Ops;
 use std::alloc::Global;
 use std::sync::ledger::Ledger;
+use std::thread::Threads;
 
 /// The engine of a store that was opened, with the superblock that counts and what its log says of
 /// transactions. The engine has to be ended (`Engine::into_disk`).
@@ -42,7 +43,8 @@ pub struct Unopened<D: Disk> {
 
 /// Opens a store as `reopen` does, and makes an engine of what it gives. A refusal hands the disk back,
 /// as opening left it.
-pub fn open_engine<D: Disk, L: Ledger>(
+pub fn open_engine<R: Threads + Sync, D: Disk, L: Ledger>(
+    rt: &R,
     alloc: Global,
     disk: D,
     ops: &Ops,
@@ -65,7 +67,7 @@ pub fn open_engine<D: Disk, L: Ledger>(
         ((c : Image) → Leaves (D.view disk).now c → StandsOver o ds all c) → IfErr result (λ u. LeavesOnly (D.view disk) (D.view u.disk) (StandsOver o ds all)) }
 {
     let mut disk = disk;
-    match reopen(alloc, &mut disk, ops, steps) {
+    match reopen(rt, alloc, &mut disk, ops, steps) {
         Ok(
             Opened {
                 geometry,

@@ -1,10 +1,7 @@
-ghost use Rattle.std.specs.Prelude.{true, refl};
-
 use sg_laws::{Change, are_accepted, redo_all, redo_and_undo, redo_in_turn};
-use sg_ops::{Ops, RecordOp};
+use sg_meeting::{Flags, are_taken};
+use sg_ops::Ops;
 use std::alloc::{AllocError, Global};
-use std::sync::Arc;
-use std::sync::atomic::{AtomicU64, Ordering};
 use std::test::Fail;
 use std::thread::Threads;
 
@@ -14,105 +11,6 @@ fn change(alloc: Global, item: u8, code: u16, arg: u8) -> Result<Change, AllocEr
         code,
         arg: vec![in alloc; arg]?,
     })
-}
-
-// Sets its own flag and then looks for the other's, for so many turns; a count says how often one
-// was seen. It changes nothing.
-#[derive(Drop)]
-struct Meeting {
-    code: u16,
-    mine: Arc<AtomicU64, Global>,
-    other: Arc<AtomicU64, Global>,
-    seen: Arc<AtomicU64, Global>,
-}
-
-const TURNS: u64 = 100_000_000;
-
-impl RecordOp for Meeting {
-    ghost record_meaning = { λ op. record { code = op.code; accepts = λ item arg. true; after = λ item arg. item; before = λ item arg. item } };
-
-    ghost record_law = { λ op. record { undoes = λ item arg a b h. refl; keeps_length = λ item arg a b h. refl; leaves_bytes = λ item arg a b h. a; undo_keeps_length = λ item arg a b. refl; undo_leaves_bytes = λ item arg a b. a } };
-
-    fn code(&self) -> u16 {
-        self.code
-    }
-
-    fn accepts(&self, _item: &[u8], _arg: &[u8]) -> bool {
-        true
-    }
-
-    fn redo(&self, _item: &mut [u8], _arg: &[u8]) {
-        self.mine.store(1, Ordering::SeqCst);
-        for _ in 0..TURNS {
-            if self.other.load(Ordering::SeqCst) == 1 {
-                self.seen.fetch_add(1, Ordering::SeqCst);
-                return;
-            }
-        }
-    }
-
-    fn undo(&self, _item: &mut [u8], _arg: &[u8]) {}
-}
-
-// Two flags, and the count.
-#[derive(Drop)]
-pub struct Flags {
-    left: Arc<AtomicU64, Global>,
-    right: Arc<AtomicU64, Global>,
-    seen: Arc<AtomicU64, Global>,
-}
-
-fn zero(alloc: Global) -> Result<Arc<AtomicU64, Global>, Fail> {
-    Ok(Arc::new(alloc, AtomicU64::new(0))?)
-}
-
-impl Flags {
-    pub fn new(alloc: Global) -> Result<Flags, Fail> {
-        Ok(Flags {
-            left: zero(alloc)?,
-            right: zero(alloc)?,
-            seen: zero(alloc)?,
-        })
-    }
-
-    // Sets the left one and looks for the right one.
-    fn first(&self) -> Result<Meeting, Fail> {
-        meeting_of(7, &self.left, &self.right, &self.seen)
-    }
-
-    // The other way round.
-    fn second(&self) -> Result<Meeting, Fail> {
-        meeting_of(8, &self.right, &self.left, &self.seen)
-    }
-
-    pub fn count(&self) -> u64 {
-        self.seen.load(Ordering::SeqCst)
-    }
-}
-
-fn meeting_of(
-    code: u16,
-    mine: &Arc<AtomicU64, Global>,
-    other: &Arc<AtomicU64, Global>,
-    seen: &Arc<AtomicU64, Global>,
-) -> Result<Meeting, Fail> {
-    Ok(Meeting {
-        code,
-        mine: Arc::try_clone(mine)?,
-        other: Arc::try_clone(other)?,
-        seen: Arc::try_clone(seen)?,
-    })
-}
-
-fn is_taken(alloc: Global, ops: &mut Ops, meeting: Meeting) -> Result<bool, Fail> {
-    Ok(ops.register_record(Box::new(alloc, meeting)?).is_ok())
-}
-
-// Whether both operations are taken.
-pub fn are_taken(alloc: Global, ops: &mut Ops, flags: &Flags) -> Result<bool, Fail> {
-    let is_first = is_taken(alloc, ops, flags.first()?)?;
-    let is_second = is_taken(alloc, ops, flags.second()?)?;
-    Ok(is_first && is_second)
 }
 
 // Changes of an item of one byte, by a code, with an argument of one byte.

@@ -5,7 +5,6 @@ use crate::stores::{Stop, Trial, named};
 use sg_base::{Steps, TxnId};
 use sg_disk::MemDisk;
 use sg_model::Op;
-use std::alloc::Global;
 use std::marker::Brand;
 use std::sync::ledger::{Blank, Ledger};
 use std::test::Fail;
@@ -64,11 +63,11 @@ fn undo(trial: &mut Trial, txn: TxnId) -> Result<([[u8; 4]; 4], bool), Stop> {
 
 // What a crash leaves of the store in which the item was rotated, and the item then.
 fn interrupted<L: Ledger>(
-    alloc: Global,
+    rt: &HostRuntime,
     pick: u64,
     steps: &mut Steps<L>,
 ) -> Result<(MemDisk, [u8; 4]), Stop> {
-    let mut trial = Trial::new(alloc, steps)?;
+    let mut trial = Trial::new(rt, steps)?;
     let made = make(&mut trial);
     let rotated = rotate(&mut trial);
     let disk = trial.into_disk().crash(pick);
@@ -77,18 +76,18 @@ fn interrupted<L: Ledger>(
 }
 
 // What undoing comes to over such a store, and the item once that is opened again, where no transaction goes on.
-fn undone<L: Ledger>(alloc: Global, pick: u64, blank: Blank) -> Result<[[u8; 4]; 6], Stop>
+fn undone<L: Ledger>(rt: &HostRuntime, pick: u64, blank: Blank) -> Result<[[u8; 4]; 6], Stop>
     requires name { blank.name ≡ L.name }
     requires parts { blank.parts ≡ L.parts }
     requires some { 0 < L.parts }
 {
     let mut steps = Steps::<L>::open(blank);
-    let (disk, rotated) = interrupted(alloc, pick, &mut steps)?;
-    let (mut trial, loser) = Trial::again(alloc, disk, &mut steps)?;
+    let (disk, rotated) = interrupted(rt, pick, &mut steps)?;
+    let (mut trial, loser) = Trial::again(rt, disk, &mut steps)?;
     let came = undo(&mut trial, loser);
     let disk = trial.into_disk();
     let (items, left) = came?;
-    let (mut trial, none) = Trial::again(alloc, disk, &mut steps)?;
+    let (mut trial, none) = Trial::again(rt, disk, &mut steps)?;
     let found = item(&mut trial, none);
     let _disk = trial.into_disk();
     if left || none.0 != 0 {
@@ -102,7 +101,7 @@ fn undone<L: Ledger>(alloc: Global, pick: u64, blank: Blank) -> Result<[[u8; 4];
 fn three_rotates_of_a_loser_are_undone(rt: HostRuntime) -> Result<(), Fail> {
     let want = [*b"zwxy", *b"zwxy", *b"yzwx", *b"xyzw", *b"wxyz", *b"wxyz"];
     for pick in 0..4u64 {
-        assert_eq!(rt; undone::<Brand>(rt.alloc(), pick, Blank::new(1)), Ok(want));
+        assert_eq!(rt; undone::<Brand>(&rt, pick, Blank::new(1)), Ok(want));
     }
     Ok(())
 }

@@ -154,12 +154,12 @@ type Engine = Phys<Quiet<MemDisk>>;
 
 // The engine over a disk, and what its log says.
 fn opened<L: Ledger>(
-    alloc: Global,
+    rt: &HostRuntime,
     disk: MemDisk,
     ops: &Ops,
     steps: &mut Steps<L>,
 ) -> Result<(Engine, Analysis), Stop> {
-    match attach(alloc, Quiet { inner: disk }, ops, steps) {
+    match attach(rt, rt.alloc(), Quiet { inner: disk }, ops, steps) {
         Ok(
             AttachedStore {
                 pages,
@@ -201,29 +201,29 @@ fn loser_of(analysis: &Analysis) -> Row {
 
 impl Trial {
     // The empty store, opened.
-    pub fn new<L: Ledger>(alloc: Global, steps: &mut Steps<L>) -> Result<Trial, Stop> {
-        let disk = store(alloc)?;
-        let ops = Ops::shipped(alloc)?;
-        let maps = begun(alloc)?;
-        let unfreed = full(alloc)?;
-        let rows = rows_of(alloc, VACANT)?;
-        let (engine, _analysis) = opened(alloc, disk, &ops, steps)?;
+    pub fn new<L: Ledger>(rt: &HostRuntime, steps: &mut Steps<L>) -> Result<Trial, Stop> {
+        let disk = store(rt.alloc())?;
+        let ops = Ops::shipped(rt.alloc())?;
+        let maps = begun(rt.alloc())?;
+        let unfreed = full(rt.alloc())?;
+        let rows = rows_of(rt.alloc(), VACANT)?;
+        let (engine, _analysis) = opened(rt, disk, &ops, steps)?;
         let acts = acts_over(engine, maps, unfreed, rows);
         Ok(Trial { acts, ops })
     }
 
     // A store that was opened again, of which every page counts as taken, and the transaction that goes on, or 0.
     pub fn again<L: Ledger>(
-        alloc: Global,
+        rt: &HostRuntime,
         disk: MemDisk,
         steps: &mut Steps<L>,
     ) -> Result<(Trial, TxnId), Stop> {
-        let ops = Ops::shipped(alloc)?;
-        let maps = full(alloc)?;
-        let unfreed = full(alloc)?;
-        let (engine, analysis) = opened(alloc, disk, &ops, steps)?;
+        let ops = Ops::shipped(rt.alloc())?;
+        let maps = full(rt.alloc())?;
+        let unfreed = full(rt.alloc())?;
+        let (engine, analysis) = opened(rt, disk, &ops, steps)?;
         let loser = loser_of(&analysis);
-        match rows_of(alloc, loser) {
+        match rows_of(rt.alloc(), loser) {
             Ok(rows) => {
                 let acts = acts_over(engine, maps, unfreed, rows);
                 Ok((Trial { acts, ops }, loser.txn))

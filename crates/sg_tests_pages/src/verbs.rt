@@ -194,7 +194,7 @@ fn first_wrong(
 
 // The same in a new store.
 fn in_a_store<L: Ledger>(
-    alloc: Global,
+    rt: &HostRuntime,
     kind: Kind,
     count: u32,
     blank: Blank,
@@ -204,8 +204,8 @@ fn in_a_store<L: Ledger>(
     requires some { 0 < L.parts }
 {
     let mut steps = Steps::<L>::open(blank);
-    let mut trial = Trial::new(alloc, &mut steps)?;
-    let wrong = first_wrong(alloc, &mut trial, kind, count);
+    let mut trial = Trial::new(rt, &mut steps)?;
+    let wrong = first_wrong(rt.alloc(), &mut trial, kind, count);
     let _disk = trial.into_disk();
     wrong
 }
@@ -213,7 +213,7 @@ fn in_a_store<L: Ledger>(
 #[test]
 fn verbs_of_an_array(rt: HostRuntime) -> Result<(), Fail> {
     assert_eq!(rt;
-        in_a_store::<Brand>(rt.alloc(), Kind::Array, 400, Blank::new(1)),
+        in_a_store::<Brand>(&rt, Kind::Array, 400, Blank::new(1)),
         Ok(None)
     );
     Ok(())
@@ -222,7 +222,7 @@ fn verbs_of_an_array(rt: HostRuntime) -> Result<(), Fail> {
 #[test]
 fn verbs_of_a_table(rt: HostRuntime) -> Result<(), Fail> {
     assert_eq!(rt;
-        in_a_store::<Brand>(rt.alloc(), Kind::Table, 400, Blank::new(1)),
+        in_a_store::<Brand>(&rt, Kind::Table, 400, Blank::new(1)),
         Ok(None)
     );
     Ok(())
@@ -231,7 +231,7 @@ fn verbs_of_a_table(rt: HostRuntime) -> Result<(), Fail> {
 #[test]
 fn verbs_of_a_blob(rt: HostRuntime) -> Result<(), Fail> {
     assert_eq!(rt;
-        in_a_store::<Brand>(rt.alloc(), Kind::Blob, 400, Blank::new(1)),
+        in_a_store::<Brand>(&rt, Kind::Blob, 400, Blank::new(1)),
         Ok(None)
     );
     Ok(())
@@ -240,7 +240,7 @@ fn verbs_of_a_blob(rt: HostRuntime) -> Result<(), Fail> {
 #[test]
 fn verbs_of_the_catalogue(rt: HostRuntime) -> Result<(), Fail> {
     assert_eq!(rt;
-        in_a_store::<Brand>(rt.alloc(), Kind::Name, 300, Blank::new(1)),
+        in_a_store::<Brand>(&rt, Kind::Name, 300, Blank::new(1)),
         Ok(None)
     );
     Ok(())

@@ -12,6 +12,7 @@ use std::alloc::Global;
 use std::marker::Brand;
 use std::sync::ledger::{Blank, Ledger};
 use std::test::Fail;
+use std::thread::Threads;
 
 const PAGES: u32 = 200;
 
@@ -716,7 +717,12 @@ impl Part {
         Ok(part)
     }
 
-    fn redo<L: Ledger>(&mut self, trial: &mut Trial, steps: &mut Steps<L>) -> Result<(), Stop> {
+    fn redo<R: Threads + Sync, L: Ledger>(
+        &mut self,
+        rt: &R,
+        trial: &mut Trial,
+        steps: &mut Steps<L>,
+    ) -> Result<(), Stop> {
         if self.places.len() >= 65_536 || !trial.pool.can_redo(&self.places) {
             return Err(Stop::NoPage);
         }
@@ -724,6 +730,7 @@ impl Part {
             return Err(Stop::NoOperation);
         }
         trial.pool.redo(
+            rt,
             &mut trial.disk,
             &mut trial.log,
             &self.text,
@@ -755,16 +762,21 @@ impl Part {
 }
 
 // Whether each page and band is what the records of the part make of it, once, and again, and when all are home.
-fn part_redone<L: Ledger>(trial: &mut Trial, part: &mut Part, blank: Blank) -> Result<bool, Stop>
+fn part_redone<R: Threads + Sync, L: Ledger>(
+    rt: &R,
+    trial: &mut Trial,
+    part: &mut Part,
+    blank: Blank,
+) -> Result<bool, Stop>
     requires name { blank.name ≡ L.name }
     requires parts { blank.parts ≡ L.parts }
     requires some { 0 < L.parts }
 {
     let mut steps = Steps::<L>::open(blank);
-    part.redo(trial, &mut steps)?;
+    part.redo(rt, trial, &mut steps)?;
     let once = part.is_redone(trial)?;
     part.places.sort_unstable_by_key(|place| place.lsn);
-    part.redo(trial, &mut steps)?;
+    part.redo(rt, trial, &mut steps)?;
     let again = part.is_redone(trial)?;
     trial.flush()?;
     Ok(once && again && part.is_redone(trial)? && trial.pool.oldest().is_none())
@@ -775,7 +787,7 @@ fn part_redone<L: Ledger>(trial: &mut Trial, part: &mut Part, blank: Blank) -> R
 fn a_part_of_a_log_is_repeated_on_all_its_units(rt: HostRuntime) -> Result<(), Fail> {
     let mut part = Part::drawn(rt.alloc(), 150)?;
     let mut trial = Trial::new(rt.alloc(), Ops::shipped(rt.alloc())?, None)?;
-    let outcome = part_redone::<Brand>(&mut trial, &mut part, Blank::new(1));
+    let outcome = part_redone::<HostRuntime, Brand>(&rt, &mut trial, &mut part, Blank::new(1));
     trial.end();
     assert!(rt; outcome?);
     Ok(())
@@ -783,7 +795,8 @@ fn a_part_of_a_log_is_repeated_on_all_its_units(rt: HostRuntime) -> Result<(), F
 
 // What redo of a part over a page that is no page answers, and whether the pages beside it have all their records or
 // none.
-fn damaged<L: Ledger>(
+fn damaged<R: Threads + Sync, L: Ledger>(
+    rt: &R,
     trial: &mut Trial,
     part: &mut Part,
     blank: Blank,
@@ -793,7 +806,7 @@ fn damaged<L: Ledger>(
     requires some { 0 < L.parts }
 {
     let mut steps = Steps::<L>::open(blank);
-    let fault = match part.redo(trial, &mut steps) {
+    let fault = match part.redo(rt, trial, &mut steps) {
         Err(Stop::Pool(fault)) => Some(fault),
         _ => None,
     };
@@ -811,7 +824,7 @@ fn a_page_that_is_none_stops_redo(rt: HostRuntime) -> Result<(), Fail> {
     let mut trial = Trial::new(rt.alloc(), Ops::shipped(rt.alloc())?, None)?;
     let _written = trial.disk.write_at(Area::Home, page_start(PageNo(5)), &[1]);
     let _synced = trial.disk.sync(Area::Home);
-    let outcome = damaged::<Brand>(&mut trial, &mut part, Blank::new(1));
+    let outcome = damaged::<HostRuntime, Brand>(&rt, &mut trial, &mut part, Blank::new(1));
     trial.end();
     let (fault, whole) = outcome?;
     assert_eq!(rt; fault, Some(PoolFault::Damaged { page: PageNo(5) }));

@@ -3,7 +3,6 @@ use crate::trial::{Left, copy_of, new_store, run_from, run_goes, run_in_pieces};
 use sg_base::MemSource;
 use sg_disk::MemDisk;
 use sg_top::Status;
-use std::alloc::Global;
 
 const WORDS: &str = "init store --geometry file";
 
@@ -18,8 +17,8 @@ const HEAD: [u8; 44] = [
 ];
 
 // What is left of making a store of the sizes that a text says, on a disk without one.
-fn made(alloc: Global, text: &[u8]) -> Option<Left> {
-    run_in_pieces(alloc, WORDS, MemDisk::new(alloc), text, 7)
+fn made(rt: &HostRuntime, text: &[u8]) -> Option<Left> {
+    run_in_pieces(rt, WORDS, MemDisk::new(rt.alloc()), text, 7)
 }
 
 // Whether the disk begins with these bytes.
@@ -28,18 +27,18 @@ fn begins(disk: &MemDisk, head: &[u8]) -> bool {
 }
 
 // Whether a store of the least sizes is made so, and answers a script whose array needs more pages than it has.
-fn least_goes(alloc: Global) -> Option<bool> {
-    let left = made(alloc, LEAST)?;
+fn least_goes(rt: &HostRuntime) -> Option<bool> {
+    let left = made(rt, LEAST)?;
     let is_made = left.is(Status::Done, b"ok\n") && begins(&left.disk, &HEAD);
     let script =
         b"t begin\nt make blob b\nt size b 98304\nt size b 98305\nt write b 98303 z\nt commit";
     let replies = b"ok\nok\nok\nerror no-bands 0 1\nok\nok\n";
-    Some(is_made && run_goes(alloc, left.disk, script, Status::Done, replies))
+    Some(is_made && run_goes(rt, left.disk, script, Status::Done, replies))
 }
 
 #[test]
 fn a_store_of_the_least_sizes(rt: HostRuntime) {
-    assert_eq!(rt; least_goes(rt.alloc()), Some(true));
+    assert_eq!(rt; least_goes(&rt), Some(true));
 }
 
 // Texts, and how making a store of their sizes ends.
@@ -54,8 +53,8 @@ const TEXTS: [(&[u8], Status); 7] = [
 ];
 
 // Whether a text has that end, and makes no call of the disk where it is bad.
-fn text_goes(alloc: Global, text: &[u8], end: Status) -> bool {
-    match made(alloc, text) {
+fn text_goes(rt: &HostRuntime, text: &[u8], end: Status) -> bool {
+    match made(rt, text) {
         Some(left) if end == Status::Done => left.is(end, b"ok\n"),
         Some(left) => left.is(end, b"") && left.disk.call_count() == 0,
         None => false,
@@ -63,9 +62,9 @@ fn text_goes(alloc: Global, text: &[u8], end: Status) -> bool {
 }
 
 // The number of the first text that has another end.
-fn first_wrong(alloc: Global) -> Option<usize> {
+fn first_wrong(rt: &HostRuntime) -> Option<usize> {
     for (number, (text, end)) in TEXTS.iter().enumerate() {
-        if !text_goes(alloc, text, *end) {
+        if !text_goes(rt, text, *end) {
             return Some(number);
         }
     }
@@ -74,13 +73,13 @@ fn first_wrong(alloc: Global) -> Option<usize> {
 
 #[test]
 fn a_text_that_says_no_sizes_is_bad(rt: HostRuntime) {
-    assert_eq!(rt; first_wrong(rt.alloc()), None);
+    assert_eq!(rt; first_wrong(&rt), None);
 }
 
 // How making one ends on a disk that has a store, and whether that is as it was.
-fn end_over_a_store(alloc: Global, text: &[u8]) -> Option<(Status, bool)> {
-    let store = new_store(alloc)?;
-    let left = run_in_pieces(alloc, WORDS, copy_of(alloc, &store)?, text, 7)?;
+fn end_over_a_store(rt: &HostRuntime, text: &[u8]) -> Option<(Status, bool)> {
+    let store = new_store(rt)?;
+    let left = run_in_pieces(rt, WORDS, copy_of(rt, &store)?, text, 7)?;
     let same = left.disk.home() == store.home() && left.replies().is_empty();
     Some((left.status, same))
 }
@@ -88,23 +87,19 @@ fn end_over_a_store(alloc: Global, text: &[u8]) -> Option<(Status, bool)> {
 // A bad text is answered before it is seen that there is a store.
 #[test]
 fn a_store_is_kept(rt: HostRuntime) {
-    let alloc = rt.alloc();
+    assert_eq!(rt; end_over_a_store(&rt, LEAST), Some((Status::Exists, true)));
     assert_eq!(rt;
-        end_over_a_store(alloc, LEAST),
-        Some((Status::Exists, true))
-    );
-    assert_eq!(rt;
-        end_over_a_store(alloc, b"pages = 63"),
+        end_over_a_store(&rt, b"pages = 63"),
         Some((Status::BadGeometry, true))
     );
 }
 
 // How making one ends where the source's n-th read fails, and how many calls of the disk it made.
-fn end_of_failed(alloc: Global, fails: u64) -> Option<(Status, u64)> {
-    match LEAST.to_vec(alloc) {
+fn end_of_failed(rt: &HostRuntime, fails: u64) -> Option<(Status, u64)> {
+    match LEAST.to_vec(rt.alloc()) {
         Ok(text) => {
             let mut source = MemSource::new(text, 20, Some(fails));
-            let left = run_from(alloc, WORDS, MemDisk::new(alloc), &mut source, None)?;
+            let left = run_from(rt, WORDS, MemDisk::new(rt.alloc()), &mut source, None)?;
             Some((left.status, left.disk.call_count()))
         }
         Err(_) => None,
@@ -115,6 +110,6 @@ fn end_of_failed(alloc: Global, fails: u64) -> Option<(Status, u64)> {
 #[test]
 fn a_source_that_fails_says_no_sizes(rt: HostRuntime) {
     for fails in 1..5u64 {
-        assert_eq!(rt; end_of_failed(rt.alloc(), fails), Some((Status::Read, 0)));
+        assert_eq!(rt; end_of_failed(&rt, fails), Some((Status::Read, 0)));
     }
 }

@@ -11,6 +11,8 @@ mod listing;
 #[cfg(test)]
 mod look;
 #[cfg(test)]
+mod meeting;
+#[cfg(test)]
 mod objects;
 #[cfg(test)]
 mod rounds;

@@ -3,7 +3,6 @@ use crate::trial::{Left, are_same, copy_of, done, new_store, run_from};
 use sg_base::{Area, MemSource};
 use sg_disk::{CallKind, MemDisk};
 use sg_top::Status;
-use std::alloc::Global;
 
 // Scripts over a new store and their replies, the objects that they leave, and what these come to.
 const ROWS: [(&str, &str, &str, &str); 4] = [
@@ -40,32 +39,32 @@ const ROWS: [(&str, &str, &str, &str); 4] = [
 const PAGES: usize = 143_360;
 
 // What is left of a look at a copy of this disk, by these words. Its source may not be read, and the sink's n-th call fails where n is given.
-fn look(alloc: Global, words: &str, disk: &MemDisk, sink_fails: Option<u64>) -> Option<Left> {
-    let disk = copy_of(alloc, disk)?;
-    let mut source = MemSource::new(Vec::new(alloc), 8, Some(1));
-    run_from(alloc, words, disk, &mut source, sink_fails)
+fn look(rt: &HostRuntime, words: &str, disk: &MemDisk, sink_fails: Option<u64>) -> Option<Left> {
+    let disk = copy_of(rt, disk)?;
+    let mut source = MemSource::new(Vec::new(rt.alloc()), 8, Some(1));
+    run_from(rt, words, disk, &mut source, sink_fails)
 }
 
 // Whether a look writes this, and leaves the disk of a store that was closed well as it was.
-fn shows(alloc: Global, words: &str, disk: &MemDisk, text: &str) -> bool {
-    match look(alloc, words, disk, None) {
+fn shows(rt: &HostRuntime, words: &str, disk: &MemDisk, text: &str) -> bool {
+    match look(rt, words, disk, None) {
         Some(left) => left.is(Status::Done, text.as_bytes()) && are_same(&left.disk, disk),
         None => false,
     }
 }
 
 // Whether the objects that a script leaves are written so, and what they come to.
-fn row_goes(alloc: Global, script: &str, replies: &str, text: &str, sum: &str) -> Option<bool> {
-    let store = new_store(alloc)?;
-    let disk = done(alloc, store, script.as_bytes(), replies.as_bytes())?;
-    let written = shows(alloc, "dump store", &disk, text);
-    Some(written && shows(alloc, "check store", &disk, sum))
+fn row_goes(rt: &HostRuntime, script: &str, replies: &str, text: &str, sum: &str) -> Option<bool> {
+    let store = new_store(rt)?;
+    let disk = done(rt, store, script.as_bytes(), replies.as_bytes())?;
+    let written = shows(rt, "dump store", &disk, text);
+    Some(written && shows(rt, "check store", &disk, sum))
 }
 
 // The number of the first row that goes otherwise.
-fn first_wrong(alloc: Global) -> Option<usize> {
+fn first_wrong(rt: &HostRuntime) -> Option<usize> {
     for (number, (script, replies, text, sum)) in ROWS.iter().enumerate() {
-        if row_goes(alloc, script, replies, text, sum) != Some(true) {
+        if row_goes(rt, script, replies, text, sum) != Some(true) {
             return Some(number);
         }
     }
@@ -74,81 +73,81 @@ fn first_wrong(alloc: Global) -> Option<usize> {
 
 #[test]
 fn objects_are_written_and_summed(rt: HostRuntime) {
-    assert_eq!(rt; first_wrong(rt.alloc()), None);
+    assert_eq!(rt; first_wrong(&rt), None);
 }
 
 // Whether a look ends so with this text.
 fn ends(
-    alloc: Global,
+    rt: &HostRuntime,
     words: &str,
     disk: &MemDisk,
     sink_fails: Option<u64>,
     status: Status,
     text: &str,
 ) -> bool {
-    match look(alloc, words, disk, sink_fails) {
+    match look(rt, words, disk, sink_fails) {
         Some(left) => left.is(status, text.as_bytes()),
         None => false,
     }
 }
 
 // Whether zeros are no store for a look, and a superblock with a wrong magic is told with its place.
-fn refusals_go(alloc: Global, words: &str) -> Option<[bool; 2]> {
-    let none = MemDisk::new(alloc);
-    let mut home = new_store(alloc)?.home().to_vec(alloc).ok()?;
+fn refusals_go(rt: &HostRuntime, words: &str) -> Option<[bool; 2]> {
+    let none = MemDisk::new(rt.alloc());
+    let mut home = new_store(rt)?.home().to_vec(rt.alloc()).ok()?;
     if home.len() > 1 {
         home[1] = 0;
     }
-    let spoiled = MemDisk::of(alloc, home, Vec::new(alloc), Vec::new(alloc));
+    let spoiled = MemDisk::of(rt.alloc(), home, Vec::new(rt.alloc()), Vec::new(rt.alloc()));
     let damage = Status::Damaged(Area::Home, 1);
     Some([
-        ends(alloc, words, &none, None, Status::NotAStore, ""),
-        ends(alloc, words, &spoiled, None, damage, ""),
+        ends(rt, words, &none, None, Status::NotAStore, ""),
+        ends(rt, words, &spoiled, None, damage, ""),
     ])
 }
 
 // Whether the catalogue's first page is told by its first byte where it is of another kind.
-fn spoiled_page_goes(alloc: Global, words: &str) -> Option<bool> {
+fn spoiled_page_goes(rt: &HostRuntime, words: &str) -> Option<bool> {
     let (script, replies, _, _) = ROWS[1];
-    let store = new_store(alloc)?;
-    let disk = done(alloc, store, script.as_bytes(), replies.as_bytes())?;
-    let mut home = disk.home().to_vec(alloc).ok()?;
+    let store = new_store(rt)?;
+    let disk = done(rt, store, script.as_bytes(), replies.as_bytes())?;
+    let mut home = disk.home().to_vec(rt.alloc()).ok()?;
     if home.len() > PAGES + 8 {
         home[PAGES + 8] = 99;
     }
-    let log0 = disk.log0().to_vec(alloc).ok()?;
-    let spoiled = MemDisk::of(alloc, home, log0, Vec::new(alloc));
+    let log0 = disk.log0().to_vec(rt.alloc()).ok()?;
+    let spoiled = MemDisk::of(rt.alloc(), home, log0, Vec::new(rt.alloc()));
     let damage = Status::Damaged(Area::Home, PAGES as u64);
-    Some(ends(alloc, words, &spoiled, None, damage, ""))
+    Some(ends(rt, words, &spoiled, None, damage, ""))
 }
 
 // How a look ends where the disk's first read fails.
-fn cut_by_disk(alloc: Global, words: &str) -> Option<Status> {
-    let mut disk = new_store(alloc)?;
+fn cut_by_disk(rt: &HostRuntime, words: &str) -> Option<Status> {
+    let mut disk = new_store(rt)?;
     disk.fail(CallKind::Read, 1);
-    let mut source = MemSource::new(Vec::new(alloc), 8, Some(1));
-    let left = run_from(alloc, words, disk, &mut source, None)?;
+    let mut source = MemSource::new(Vec::new(rt.alloc()), 8, Some(1));
+    let left = run_from(rt, words, disk, &mut source, None)?;
     Some(left.status)
 }
 
 // Whether a sink that fails is told, and what it took before: the first lines of the objects of the last row, or nothing.
-fn cuts_go(alloc: Global) -> Option<[bool; 2]> {
+fn cuts_go(rt: &HostRuntime) -> Option<[bool; 2]> {
     let (script, replies, _, _) = ROWS[3];
-    let store = new_store(alloc)?;
-    let disk = done(alloc, store, script.as_bytes(), replies.as_bytes())?;
+    let store = new_store(rt)?;
+    let disk = done(rt, store, script.as_bytes(), replies.as_bytes())?;
     let front = "array a 1 1\n 0 x:00\n";
     Some([
-        ends(alloc, "dump store", &disk, Some(3), Status::Write, front),
-        ends(alloc, "check store", &disk, Some(1), Status::Write, ""),
+        ends(rt, "dump store", &disk, Some(3), Status::Write, front),
+        ends(rt, "check store", &disk, Some(1), Status::Write, ""),
     ])
 }
 
 #[test]
 fn what_fails_in_a_look_is_told(rt: HostRuntime) {
     for words in ["dump store", "check store"] {
-        assert_eq!(rt; refusals_go(rt.alloc(), words), Some([true, true]));
-        assert_eq!(rt; spoiled_page_goes(rt.alloc(), words), Some(true));
-        assert_eq!(rt; cut_by_disk(rt.alloc(), words), Some(Status::Disk));
+        assert_eq!(rt; refusals_go(&rt, words), Some([true, true]));
+        assert_eq!(rt; spoiled_page_goes(&rt, words), Some(true));
+        assert_eq!(rt; cut_by_disk(&rt, words), Some(Status::Disk));
     }
-    assert_eq!(rt; cuts_go(rt.alloc()), Some([true, true]));
+    assert_eq!(rt; cuts_go(&rt), Some([true, true]));
 }

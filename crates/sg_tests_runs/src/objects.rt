@@ -2,7 +2,6 @@
 use crate::trial::run;
 use sg_disk::MemDisk;
 use sg_making::Geometry;
-use std::alloc::Global;
 
 /// As small a store as may be made.
 pub const SIZES: Geometry = Geometry {
@@ -45,7 +44,7 @@ const AFTER: [&[u8]; 6] = [
 ];
 
 /// The number of commits whose objects a store over this disk shows, where it opens and shows those of some.
-pub fn commits_shown(alloc: Global, disk: MemDisk) -> Option<usize> {
-    let left = run(alloc, disk, LOOK)?;
+pub fn commits_shown(rt: &HostRuntime, disk: MemDisk) -> Option<usize> {
+    let left = run(rt, disk, LOOK)?;
     AFTER.iter().position(|replies| *replies == left.replies())
 }

@@ -3,7 +3,6 @@
 use crate::objects::{SCRIPT, SIZES, commits_shown};
 use crate::trial::{acknowledged, are_same, copy_of, new_store_of, run_stopped};
 use sg_disk::MemDisk;
-use std::alloc::Global;
 
 // What a crash makes of the bytes that no sync made durable: all of them are there; none is; those of every other call are; and of each call the
 // first half is.
@@ -35,13 +34,13 @@ struct Seen {
 
 // A run of a script over a copy of the store that makes so many calls, and a crash.
 fn crash_run(
-    alloc: Global,
+    rt: &HostRuntime,
     store: &MemDisk,
     script: &[u8],
     calls: u64,
     pick: u64,
 ) -> Option<Crashed> {
-    let left = run_stopped(alloc, copy_of(alloc, store)?, script, calls)?;
+    let left = run_stopped(rt, copy_of(rt, store)?, script, calls)?;
     Some(Crashed {
         acknowledged: acknowledged(script, left.replies()),
         calls: left.disk.call_count(),
@@ -51,17 +50,17 @@ fn crash_run(
 
 // Whether a store that shows so many commits shows as many once its opening was stopped, after each number of calls. Where two stops leave
 // the same bytes, the second shows nothing new.
-fn openings_show(alloc: Global, store: &MemDisk, shown: usize, pick: u64) -> Option<bool> {
-    let mut before = copy_of(alloc, store)?;
+fn openings_show(rt: &HostRuntime, store: &MemDisk, shown: usize, pick: u64) -> Option<bool> {
+    let mut before = copy_of(rt, store)?;
     for calls in 0..MOST_CALLS {
         let Crashed {
             disk,
             calls: made,
             ..
-        } = crash_run(alloc, store, b"", calls, pick)?;
+        } = crash_run(rt, store, b"", calls, pick)?;
         if !are_same(&before, &disk) {
-            before = copy_of(alloc, &disk)?;
-            if commits_shown(alloc, disk)? != shown {
+            before = copy_of(rt, &disk)?;
+            if commits_shown(rt, disk)? != shown {
                 return Some(false);
             }
         }
@@ -73,9 +72,9 @@ fn openings_show(alloc: Global, store: &MemDisk, shown: usize, pick: u64) -> Opt
 }
 
 // The number of commits that a store shows over these bytes, where it shows as many however its opening is stopped.
-fn look(alloc: Global, disk: MemDisk, pick: u64) -> Option<Seen> {
-    let shown = commits_shown(alloc, copy_of(alloc, &disk)?)?;
-    if openings_show(alloc, &disk, shown, pick)? {
+fn look(rt: &HostRuntime, disk: MemDisk, pick: u64) -> Option<Seen> {
+    let shown = commits_shown(rt, copy_of(rt, &disk)?)?;
+    if openings_show(rt, &disk, shown, pick)? {
         Some(Seen { disk, shown })
     } else {
         None
@@ -90,20 +89,20 @@ fn is_next(least: usize, shown: usize) -> bool {
 // A run of the script that makes so many calls: how many commits it acknowledged, and whether it was whole. None where what a crash leaves doesn't show
 // these commits, or one more.
 fn round(
-    alloc: Global,
+    rt: &HostRuntime,
     store: &MemDisk,
     calls: u64,
     pick: u64,
     seen: &mut Seen,
 ) -> Option<(usize, bool)> {
-    let crashed = crash_run(alloc, store, SCRIPT, calls, pick)?;
+    let crashed = crash_run(rt, store, SCRIPT, calls, pick)?;
     let Crashed {
         acknowledged,
         disk,
         calls: made,
     } = crashed;
     if !are_same(&seen.disk, &disk) {
-        *seen = look(alloc, disk, pick)?;
+        *seen = look(rt, disk, pick)?;
     }
     if is_next(acknowledged, seen.shown) {
         Some((acknowledged, made < calls))
@@ -114,16 +113,16 @@ fn round(
 
 // How many commits the first whole run acknowledged, where it and each run that was stopped before go as they should; and else the number of calls at
 // which one goes otherwise.
-fn rounds(alloc: Global, pick: u64) -> Result<usize, u64> {
-    let Some(store) = new_store_of(alloc, &SIZES) else {
+fn rounds(rt: &HostRuntime, pick: u64) -> Result<usize, u64> {
+    let Some(store) = new_store_of(rt, &SIZES) else {
         return Err(MOST_CALLS);
     };
-    let Some(disk) = copy_of(alloc, &store) else {
+    let Some(disk) = copy_of(rt, &store) else {
         return Err(MOST_CALLS);
     };
     let mut seen = Seen { disk, shown: 0 };
     for calls in 0..MOST_CALLS {
-        match round(alloc, &store, calls, pick, &mut seen) {
+        match round(rt, &store, calls, pick, &mut seen) {
             Some((acknowledged, true)) => return Ok(acknowledged),
             Some(_) => {}
             None => return Err(calls),
@@ -134,20 +133,20 @@ fn rounds(alloc: Global, pick: u64) -> Result<usize, u64> {
 
 #[test]
 fn stopped_where_all_bytes_are_there(rt: HostRuntime) {
-    assert_eq!(rt; rounds(rt.alloc(), ALL), Ok(5));
+    assert_eq!(rt; rounds(&rt, ALL), Ok(5));
 }
 
 #[test]
 fn stopped_where_none_is(rt: HostRuntime) {
-    assert_eq!(rt; rounds(rt.alloc(), NONE), Ok(5));
+    assert_eq!(rt; rounds(&rt, NONE), Ok(5));
 }
 
 #[test]
 fn stopped_where_those_of_every_other_call_are(rt: HostRuntime) {
-    assert_eq!(rt; rounds(rt.alloc(), EVERY_OTHER), Ok(5));
+    assert_eq!(rt; rounds(&rt, EVERY_OTHER), Ok(5));
 }
 
 #[test]
 fn stopped_where_the_first_half_of_each_call_is(rt: HostRuntime) {
-    assert_eq!(rt; rounds(rt.alloc(), TORN), Ok(5));
+    assert_eq!(rt; rounds(&rt, TORN), Ok(5));
 }

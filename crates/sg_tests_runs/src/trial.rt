@@ -9,7 +9,7 @@ use sg_making::Geometry;
 use sg_mount::init_store;
 use sg_ops::Ops;
 use sg_top::{Finish, Status, stasis};
-use std::alloc::{AllocError, Global};
+use std::alloc::AllocError;
 
 // The sizes of a new store where none are given.
 const SIZES: Geometry = Geometry {
@@ -40,8 +40,8 @@ impl Left {
 }
 
 /// A disk that has a store of these sizes without objects.
-pub fn new_store_of(alloc: Global, sizes: &Geometry) -> Option<MemDisk> {
-    let mut disk = MemDisk::new(alloc);
+pub fn new_store_of(rt: &HostRuntime, sizes: &Geometry) -> Option<MemDisk> {
+    let mut disk = MemDisk::new(rt.alloc());
     match init_store(&mut disk, sizes) {
         Ok(()) => Some(disk),
         Err(_) => None,
@@ -49,17 +49,17 @@ pub fn new_store_of(alloc: Global, sizes: &Geometry) -> Option<MemDisk> {
 }
 
 /// A disk that has a store without objects, of 512 pages and 12 bands.
-pub fn new_store(alloc: Global) -> Option<MemDisk> {
-    new_store_of(alloc, &SIZES)
+pub fn new_store(rt: &HostRuntime) -> Option<MemDisk> {
+    new_store_of(rt, &SIZES)
 }
 
 /// A disk with the same contents, all of them stable.
-pub fn copy_of(alloc: Global, disk: &MemDisk) -> Option<MemDisk> {
-    if let Ok(home) = disk.home().to_vec(alloc)
-        && let Ok(log0) = disk.log0().to_vec(alloc)
-        && let Ok(log1) = disk.log1().to_vec(alloc)
+pub fn copy_of(rt: &HostRuntime, disk: &MemDisk) -> Option<MemDisk> {
+    if let Ok(home) = disk.home().to_vec(rt.alloc())
+        && let Ok(log0) = disk.log0().to_vec(rt.alloc())
+        && let Ok(log1) = disk.log1().to_vec(rt.alloc())
     {
-        Some(MemDisk::of(alloc, home, log0, log1))
+        Some(MemDisk::of(rt.alloc(), home, log0, log1))
     } else {
         None
     }
@@ -70,40 +70,59 @@ pub fn are_same(one: &MemDisk, other: &MemDisk) -> bool {
     one.home() == other.home() && one.log0() == other.log0() && one.log1() == other.log1()
 }
 
-fn words_of(alloc: Global, text: &str) -> Result<Vec<String>, AllocError> {
-    let mut words = Vec::new(alloc);
+fn words_of(rt: &HostRuntime, text: &str) -> Result<Vec<String>, AllocError> {
+    let mut words = Vec::new(rt.alloc());
     for word in text.split(' ') {
-        words.push(word.to_string(alloc)?)?;
+        words.push(word.to_string(rt.alloc())?)?;
     }
     Ok(words)
 }
 
 // Does what the words say, with these operations.
 fn run_words<S: Source>(
-    alloc: Global,
+    rt: &HostRuntime,
     ops: Ops,
     words: &[String],
     disk: MemDisk,
     script: &mut S,
     sink_fails: Option<u64>,
 ) -> Left {
-    let mut out = MemSink::new(alloc, sink_fails);
-    let Finish { status, disk, .. } = stasis(alloc, ops, words, disk, script, &mut out);
+    let mut out = MemSink::new(rt.alloc(), sink_fails);
+    let Finish { status, disk, .. } = stasis(rt, rt.alloc(), ops, words, disk, script, &mut out);
     Left { status, disk, out }
+}
+
+/// Runs a script with these operations, over a disk that makes so many calls.
+pub fn run_with(
+    rt: &HostRuntime,
+    ops: Ops,
+    disk: MemDisk,
+    script: &[u8],
+    calls: u64,
+) -> Option<Left> {
+    if let Ok(line) = format!(in rt.alloc(); "run store --stop-after {calls}")
+        && let Ok(words) = words_of(rt, line.as_str())
+        && let Ok(text) = script.to_vec(rt.alloc())
+    {
+        let mut source = MemSource::new(text, 65_536, None);
+        Some(run_words(rt, ops, &words, disk, &mut source, None))
+    } else {
+        None
+    }
 }
 
 /// Does what the words say, with the shipped operations. The sink's n-th call fails where n is given.
 pub fn run_from<S: Source>(
-    alloc: Global,
+    rt: &HostRuntime,
     words: &str,
     disk: MemDisk,
     script: &mut S,
     sink_fails: Option<u64>,
 ) -> Option<Left> {
-    if let Ok(words) = words_of(alloc, words)
-        && let Ok(ops) = Ops::shipped(alloc)
+    if let Ok(words) = words_of(rt, words)
+        && let Ok(ops) = Ops::shipped(rt.alloc())
     {
-        Some(run_words(alloc, ops, &words, disk, script, sink_fails))
+        Some(run_words(rt, ops, &words, disk, script, sink_fails))
     } else {
         None
     }
@@ -111,7 +130,7 @@ pub fn run_from<S: Source>(
 
 /// The same with a script that comes in pieces of so many bytes.
 pub fn run_in_pieces(
-    alloc: Global,
+    rt: &HostRuntime,
     words: &str,
     disk: MemDisk,
     script: &[u8],
@@ -119,31 +138,31 @@ pub fn run_in_pieces(
 ) -> Option<Left>
     requires { 0 < piece }
 {
-    match script.to_vec(alloc) {
+    match script.to_vec(rt.alloc()) {
         Ok(text) => {
             let mut source = MemSource::new(text, piece, None);
-            run_from(alloc, words, disk, &mut source, None)
+            run_from(rt, words, disk, &mut source, None)
         }
         Err(_) => None,
     }
 }
 
 /// Runs a script.
-pub fn run(alloc: Global, disk: MemDisk, script: &[u8]) -> Option<Left> {
-    run_in_pieces(alloc, "run store", disk, script, 65_536)
+pub fn run(rt: &HostRuntime, disk: MemDisk, script: &[u8]) -> Option<Left> {
+    run_in_pieces(rt, "run store", disk, script, 65_536)
 }
 
 /// Runs a script over a disk that makes so many calls.
-pub fn run_stopped(alloc: Global, disk: MemDisk, script: &[u8], calls: u64) -> Option<Left> {
-    match format!(in alloc; "run store --stop-after {calls}") {
-        Ok(words) => run_in_pieces(alloc, words.as_str(), disk, script, 65_536),
+pub fn run_stopped(rt: &HostRuntime, disk: MemDisk, script: &[u8], calls: u64) -> Option<Left> {
+    match format!(in rt.alloc(); "run store --stop-after {calls}") {
+        Ok(words) => run_in_pieces(rt, words.as_str(), disk, script, 65_536),
         Err(_) => None,
     }
 }
 
 /// Runs a script, and hands back the disk where the run is done with these replies.
-pub fn done(alloc: Global, disk: MemDisk, script: &[u8], replies: &[u8]) -> Option<MemDisk> {
-    match run(alloc, disk, script) {
+pub fn done(rt: &HostRuntime, disk: MemDisk, script: &[u8], replies: &[u8]) -> Option<MemDisk> {
+    match run(rt, disk, script) {
         Some(left) if left.is(Status::Done, replies) => Some(left.disk),
         _ => None,
     }
@@ -151,13 +170,13 @@ pub fn done(alloc: Global, disk: MemDisk, script: &[u8], replies: &[u8]) -> Opti
 
 /// Whether a script over this disk ends so, with these replies.
 pub fn run_goes(
-    alloc: Global,
+    rt: &HostRuntime,
     disk: MemDisk,
     script: &[u8],
     status: Status,
     replies: &[u8],
 ) -> bool {
-    match run(alloc, disk, script) {
+    match run(rt, disk, script) {
         Some(left) => left.is(status, replies),
         None => false,
     }

@@ -3,7 +3,7 @@
 use crate::trial::{acknowledged, copy_of, new_store_of, run, run_stopped};
 use sg_disk::MemDisk;
 use sg_making::Geometry;
-use std::alloc::{AllocError, Global};
+use std::alloc::AllocError;
 use std::test::Fail;
 
 // 32 pages and 4 bands are in memory at a time. The entries of the table want more than 40 pages, and the blob 13 bands.
@@ -20,8 +20,8 @@ const ENTRIES: u32 = 120;
 const LETTERS: u32 = 1000;
 
 // The value with this letter.
-fn value_of(alloc: Global, letter: char) -> Result<String, AllocError> {
-    let mut value = String::new(alloc);
+fn value_of(rt: &HostRuntime, letter: char) -> Result<String, AllocError> {
+    let mut value = String::new(rt.alloc());
     for _ in 0..LETTERS {
         value.push(letter)?;
     }
@@ -29,26 +29,26 @@ fn value_of(alloc: Global, letter: char) -> Result<String, AllocError> {
 }
 
 // The lines by which a transaction gives each key the value with the letter of its name.
-fn push_puts(alloc: Global, script: &mut String, name: char) -> Result<(), AllocError> {
-    let value = value_of(alloc, name)?;
+fn push_puts(rt: &HostRuntime, script: &mut String, name: char) -> Result<(), AllocError> {
+    let value = value_of(rt, name)?;
     for key in 0..ENTRIES {
-        script.push_str(&format!(in alloc; "{name} put h k{key} {value}\n")?)?;
+        script.push_str(&format!(in rt.alloc(); "{name} put h k{key} {value}\n")?)?;
     }
     Ok(())
 }
 
 // Four commits. p makes the objects. While u gives the keys new values and commits, t has painted the whole blob, and aborts. While w paints a part of the
 // blob and commits, v has given the keys new values, and aborts. x has changed all when z commits, and is left.
-fn script(alloc: Global) -> Result<String, AllocError> {
-    let mut script = String::new(alloc);
+fn script(rt: &HostRuntime) -> Result<String, AllocError> {
+    let mut script = String::new(rt.alloc());
     script.push_str("p begin\np make table h\np make blob b\np size b 400000\n")?;
-    push_puts(alloc, &mut script, 'p')?;
+    push_puts(rt, &mut script, 'p')?;
     script.push_str("p commit\nt begin\nu begin\nt paint b 0 400000 1 T\n")?;
-    push_puts(alloc, &mut script, 'u')?;
+    push_puts(rt, &mut script, 'u')?;
     script.push_str("t abort\nu commit\nv begin\nw begin\n")?;
-    push_puts(alloc, &mut script, 'v')?;
+    push_puts(rt, &mut script, 'v')?;
     script.push_str("w paint b 100000 200000 2 x:05\nw commit\nv abort\nx begin\n")?;
-    push_puts(alloc, &mut script, 'x')?;
+    push_puts(rt, &mut script, 'x')?;
     script.push_str(
         "x size b 1000\nx paint b 0 1000 1 X\nz begin\nz make array a 1\nz commit\nx push a x",
     )?;
@@ -66,40 +66,40 @@ const READS: [(u32, &str, &str); 6] = [
 ];
 
 // The lines that look at the objects. Of the entries each eleventh is read.
-fn look(alloc: Global) -> Result<String, AllocError> {
-    let mut lines = String::new(alloc);
+fn look(rt: &HostRuntime) -> Result<String, AllocError> {
+    let mut lines = String::new(rt.alloc());
     lines.push_str("s begin\ns list\ns len b\n")?;
     for (at, _, _) in &READS {
-        lines.push_str(&format!(in alloc; "s read b {at} 8\n")?)?;
+        lines.push_str(&format!(in rt.alloc(); "s read b {at} 8\n")?)?;
     }
     for key in 0..ENTRIES {
         if key % 11 == 0 {
-            lines.push_str(&format!(in alloc; "s find h k{key}\n")?)?;
+            lines.push_str(&format!(in rt.alloc(); "s find h k{key}\n")?)?;
         }
     }
     Ok(lines)
 }
 
 // What they are answered where the objects are those after the first so many commits.
-fn answers_after(alloc: Global, commits: usize) -> Result<String, AllocError> {
-    let mut replies = String::new(alloc);
+fn answers_after(rt: &HostRuntime, commits: usize) -> Result<String, AllocError> {
+    let mut replies = String::new(rt.alloc());
     replies.push_str(match commits {
         0 => "ok\nok 0\nerror no-object\n",
         4 => "ok\nok 3 a b h\nok 400000\n",
         _ => "ok\nok 2 b h\nok 400000\n",
     })?;
-    push_reads(alloc, &mut replies, commits)?;
-    push_values(alloc, &mut replies, commits)?;
+    push_reads(rt, &mut replies, commits)?;
+    push_values(rt, &mut replies, commits)?;
     Ok(replies)
 }
 
 // The same of the places in the blob.
-fn push_reads(alloc: Global, replies: &mut String, commits: usize) -> Result<(), AllocError> {
+fn push_reads(rt: &HostRuntime, replies: &mut String, commits: usize) -> Result<(), AllocError> {
     for (_, before, behind) in &READS {
         let reply = match commits {
-            0 => format!(in alloc; "error no-object\n")?,
-            1 | 2 => format!(in alloc; "ok {before}\n")?,
-            _ => format!(in alloc; "ok {behind}\n")?,
+            0 => format!(in rt.alloc(); "error no-object\n")?,
+            1 | 2 => format!(in rt.alloc(); "ok {before}\n")?,
+            _ => format!(in rt.alloc(); "ok {behind}\n")?,
         };
         replies.push_str(&reply)?;
     }
@@ -107,14 +107,14 @@ fn push_reads(alloc: Global, replies: &mut String, commits: usize) -> Result<(),
 }
 
 // And of the entries.
-fn push_values(alloc: Global, replies: &mut String, commits: usize) -> Result<(), AllocError> {
-    let value = value_of(alloc, if commits < 2 { 'p' } else { 'u' })?;
+fn push_values(rt: &HostRuntime, replies: &mut String, commits: usize) -> Result<(), AllocError> {
+    let value = value_of(rt, if commits < 2 { 'p' } else { 'u' })?;
     for key in 0..ENTRIES {
         if key % 11 == 0 {
             let reply = if commits == 0 {
-                format!(in alloc; "error no-object\n")?
+                format!(in rt.alloc(); "error no-object\n")?
             } else {
-                format!(in alloc; "ok {value}\n")?
+                format!(in rt.alloc(); "ok {value}\n")?
             };
             replies.push_str(&reply)?;
         }
@@ -131,24 +131,24 @@ struct Texts {
 }
 
 impl Texts {
-    fn new(alloc: Global) -> Result<Texts, AllocError> {
+    fn new(rt: &HostRuntime) -> Result<Texts, AllocError> {
         Ok(Texts {
-            script: script(alloc)?,
-            look: look(alloc)?,
+            script: script(rt)?,
+            look: look(rt)?,
             after: [
-                answers_after(alloc, 0)?,
-                answers_after(alloc, 1)?,
-                answers_after(alloc, 2)?,
-                answers_after(alloc, 3)?,
-                answers_after(alloc, 4)?,
+                answers_after(rt, 0)?,
+                answers_after(rt, 1)?,
+                answers_after(rt, 2)?,
+                answers_after(rt, 3)?,
+                answers_after(rt, 4)?,
             ],
         })
     }
 }
 
 // The number of commits whose objects a store over this disk shows, where it opens and shows those of some.
-fn commits_shown(alloc: Global, texts: &Texts, disk: MemDisk) -> Option<usize> {
-    let left = run(alloc, disk, texts.look.as_bytes())?;
+fn commits_shown(rt: &HostRuntime, texts: &Texts, disk: MemDisk) -> Option<usize> {
+    let left = run(rt, disk, texts.look.as_bytes())?;
     texts
         .after
         .iter()
@@ -156,23 +156,23 @@ fn commits_shown(alloc: Global, texts: &Texts, disk: MemDisk) -> Option<usize> {
 }
 
 // How many calls a run of this script over a copy of the store makes.
-fn calls_of(alloc: Global, store: &MemDisk, script: &[u8]) -> Option<u64> {
-    let left = run(alloc, copy_of(alloc, store)?, script)?;
+fn calls_of(rt: &HostRuntime, store: &MemDisk, script: &[u8]) -> Option<u64> {
+    let left = run(rt, copy_of(rt, store)?, script)?;
     Some(left.disk.call_count())
 }
 
 // Whether a store that shows so many commits shows as many once its opening was stopped at a third and at two thirds of its calls, and short of its last.
 fn openings_show(
-    alloc: Global,
+    rt: &HostRuntime,
     texts: &Texts,
     store: &MemDisk,
     shown: usize,
     pick: u64,
 ) -> Option<bool> {
-    let all = calls_of(alloc, store, b"")?;
+    let all = calls_of(rt, store, b"")?;
     for calls in [all / 3, all / 3 * 2, all.saturating_sub(1)] {
-        let left = run_stopped(alloc, copy_of(alloc, store)?, b"", calls)?;
-        if commits_shown(alloc, texts, left.disk.crash(pick))? != shown {
+        let left = run_stopped(rt, copy_of(rt, store)?, b"", calls)?;
+        if commits_shown(rt, texts, left.disk.crash(pick))? != shown {
             return Some(false);
         }
     }
@@ -180,33 +180,34 @@ fn openings_show(
 }
 
 // Whether a run that makes so many calls leaves, behind a crash, a store that shows the acknowledged commits, or one more, however its opening is stopped.
-fn stop_goes(alloc: Global, texts: &Texts, store: &MemDisk, calls: u64, pick: u64) -> Option<bool> {
-    let left = run_stopped(
-        alloc,
-        copy_of(alloc, store)?,
-        texts.script.as_bytes(),
-        calls,
-    )?;
+fn stop_goes(
+    rt: &HostRuntime,
+    texts: &Texts,
+    store: &MemDisk,
+    calls: u64,
+    pick: u64,
+) -> Option<bool> {
+    let left = run_stopped(rt, copy_of(rt, store)?, texts.script.as_bytes(), calls)?;
     let least = acknowledged(texts.script.as_bytes(), left.replies());
     let disk = left.disk.crash(pick);
-    let shown = commits_shown(alloc, texts, copy_of(alloc, &disk)?)?;
+    let shown = commits_shown(rt, texts, copy_of(rt, &disk)?)?;
     let is_next = least <= shown && shown - least <= 1;
-    Some(is_next && openings_show(alloc, texts, &disk, shown, pick)?)
+    Some(is_next && openings_show(rt, texts, &disk, shown, pick)?)
 }
 
 // How many stops go as they should, of so many that part a whole run evenly, each with one of four crashes by turns; and else the number of calls of the
 // first that goes otherwise.
-fn stops(alloc: Global, texts: &Texts, count: u64) -> Result<u64, u64> {
-    let Some(store) = new_store_of(alloc, &SIZES) else {
+fn stops(rt: &HostRuntime, texts: &Texts, count: u64) -> Result<u64, u64> {
+    let Some(store) = new_store_of(rt, &SIZES) else {
         return Err(0);
     };
-    let Some(all) = calls_of(alloc, &store, texts.script.as_bytes()) else {
+    let Some(all) = calls_of(rt, &store, texts.script.as_bytes()) else {
         return Err(0);
     };
     for n in 0..count {
         let calls = (all / count.max(1)).saturating_mul(n);
         let pick = [0, 0x5555_5555_5555_5555, 0x4444_4444_4444_4444, u64::MAX][n as usize % 4];
-        if stop_goes(alloc, texts, &store, calls, pick) != Some(true) {
+        if stop_goes(rt, texts, &store, calls, pick) != Some(true) {
             return Err(calls);
         }
     }
@@ -215,25 +216,23 @@ fn stops(alloc: Global, texts: &Texts, count: u64) -> Result<u64, u64> {
 
 #[test]
 fn stopped_wider_than_memory(rt: HostRuntime) -> Result<(), Fail> {
-    let alloc = rt.alloc();
-    let texts = Texts::new(alloc)?;
-    assert_eq!(rt; stops(alloc, &texts, 24), Ok(24));
+    let texts = Texts::new(&rt)?;
+    assert_eq!(rt; stops(&rt, &texts, 24), Ok(24));
     Ok(())
 }
 
 // How many commits a whole run acknowledges, and how many are shown behind it.
-fn whole(alloc: Global, texts: &Texts) -> Option<(usize, usize)> {
-    let store = new_store_of(alloc, &SIZES)?;
-    let left = run(alloc, store, texts.script.as_bytes())?;
+fn whole(rt: &HostRuntime, texts: &Texts) -> Option<(usize, usize)> {
+    let store = new_store_of(rt, &SIZES)?;
+    let left = run(rt, store, texts.script.as_bytes())?;
     let least = acknowledged(texts.script.as_bytes(), left.replies());
-    let shown = commits_shown(alloc, texts, left.disk.crash(0))?;
+    let shown = commits_shown(rt, texts, left.disk.crash(0))?;
     Some((least, shown))
 }
 
 #[test]
 fn whole_wider_than_memory(rt: HostRuntime) -> Result<(), Fail> {
-    let alloc = rt.alloc();
-    let texts = Texts::new(alloc)?;
-    assert_eq!(rt; whole(alloc, &texts), Some((4, 4)));
+    let texts = Texts::new(&rt)?;
+    assert_eq!(rt; whole(&rt, &texts), Some((4, 4)));
     Ok(())
 }

@@ -1,5 +1,5 @@
 use crate::trial::answers;
-use std::alloc::{AllocError, Global};
+use std::alloc::AllocError;
 use std::test::Fail;
 
 // Lines, and what a session over an empty disk answers them.
@@ -77,9 +77,9 @@ const ROWS: [(&str, &str); 13] = [
 ];
 
 // The number of the first row whose lines are answered otherwise.
-fn first_wrong(alloc: Global) -> Option<usize> {
+fn first_wrong(rt: &HostRuntime) -> Option<usize> {
     for (number, (lines, replies)) in ROWS.iter().enumerate() {
-        if !answers(alloc, lines, replies) {
+        if !answers(rt, lines, replies) {
             return Some(number);
         }
     }
@@ -88,12 +88,12 @@ fn first_wrong(alloc: Global) -> Option<usize> {
 
 #[test]
 fn lines_of_transactions_among_one_another(rt: HostRuntime) {
-    assert_eq!(rt; first_wrong(rt.alloc()), None);
+    assert_eq!(rt; first_wrong(&rt), None);
 }
 
 // A value as long as the longest.
-fn long_value(alloc: Global) -> Result<String, AllocError> {
-    let mut value = String::new(alloc);
+fn long_value(rt: &HostRuntime) -> Result<String, AllocError> {
+    let mut value = String::new(rt.alloc());
     for _ in 0..1024u32 {
         value.push('v')?;
     }
@@ -101,45 +101,47 @@ fn long_value(alloc: Global) -> Result<String, AllocError> {
 }
 
 // Whether a table's second long entry is taken back.
-fn long_entry_goes(alloc: Global) -> Result<bool, AllocError> {
-    let value = long_value(alloc)?;
-    let lines = format!(in alloc;
+fn long_entry_goes(rt: &HostRuntime) -> Result<bool, AllocError> {
+    let value = long_value(rt)?;
+    let lines = format!(in rt.alloc();
         "t begin\nt make table h\nt put h k1 {value}\nt commit\nu begin\nu put h k2 {value}\nu abort\nw begin\nw find h k2\nw find h k1"
     )?;
-    let replies = format!(in alloc; "ok\nok\nok new\nok\nok\nok new\nok\nok\nnone\nok {value}\n")?;
-    Ok(answers(alloc, &lines, &replies))
+    let replies = format!(in rt.alloc();
+        "ok\nok\nok new\nok\nok\nok new\nok\nok\nnone\nok {value}\n"
+    )?;
+    Ok(answers(rt, &lines, &replies))
 }
 
 #[test]
 fn a_long_entry_is_taken_back(rt: HostRuntime) -> Result<(), Fail> {
-    assert!(rt; long_entry_goes(rt.alloc())?);
+    assert!(rt; long_entry_goes(&rt)?);
     Ok(())
 }
 
 // Pushes the lines of 64 transactions that begin and make an object each.
-fn push_begins(alloc: Global, lines: &mut String) -> Result<(), AllocError> {
+fn push_begins(rt: &HostRuntime, lines: &mut String) -> Result<(), AllocError> {
     for n in 10..74u32 {
-        lines.push_str(&format!(in alloc; "t{n} begin\nt{n} make array a{n} 1\n")?)?;
+        lines.push_str(&format!(in rt.alloc(); "t{n} begin\nt{n} make array a{n} 1\n")?)?;
     }
     Ok(())
 }
 
 // Pushes the lines of an abort of each second one and of a commit of the others.
-fn push_ends(alloc: Global, lines: &mut String) -> Result<(), AllocError> {
+fn push_ends(rt: &HostRuntime, lines: &mut String) -> Result<(), AllocError> {
     for n in 10..74u32 {
         let end = if n % 2 == 0 { "abort" } else { "commit" };
-        lines.push_str(&format!(in alloc; "t{n} {end}\n")?)?;
+        lines.push_str(&format!(in rt.alloc(); "t{n} {end}\n")?)?;
     }
     Ok(())
 }
 
 // The lines of 64 transactions that begin, of one more that can't, of the ends of the 64, and of one that looks at what is
 // left.
-fn lines_of_all(alloc: Global) -> Result<String, AllocError> {
-    let mut lines = String::new(alloc);
-    push_begins(alloc, &mut lines)?;
+fn lines_of_all(rt: &HostRuntime) -> Result<String, AllocError> {
+    let mut lines = String::new(rt.alloc());
+    push_begins(rt, &mut lines)?;
     lines.push_str("u begin\n")?;
-    push_ends(alloc, &mut lines)?;
+    push_ends(rt, &mut lines)?;
     lines.push_str("u begin\nu list")?;
     Ok(lines)
 }
@@ -153,39 +155,38 @@ fn push_times(replies: &mut String, count: u32, reply: &str) -> Result<(), Alloc
 }
 
 // Pushes the names of the objects of those that committed, each behind a space.
-fn push_names(alloc: Global, replies: &mut String) -> Result<(), AllocError> {
+fn push_names(rt: &HostRuntime, replies: &mut String) -> Result<(), AllocError> {
     for n in 10..74u32 {
         if n % 2 == 1 {
-            replies.push_str(&format!(in alloc; " a{n}")?)?;
+            replies.push_str(&format!(in rt.alloc(); " a{n}")?)?;
         }
     }
     Ok(())
 }
 
 // What they are answered.
-fn replies_to_all(alloc: Global) -> Result<String, AllocError> {
-    let mut replies = String::new(alloc);
+fn replies_to_all(rt: &HostRuntime) -> Result<String, AllocError> {
+    let mut replies = String::new(rt.alloc());
     push_times(&mut replies, 128, "ok\n")?;
     replies.push_str("error too-many-live\n")?;
     push_times(&mut replies, 64, "ok\n")?;
     replies.push_str("ok\nok 32")?;
-    push_names(alloc, &mut replies)?;
+    push_names(rt, &mut replies)?;
     replies.push_str("\n")?;
     Ok(replies)
 }
 
 #[test]
 fn as_many_are_live_as_may_be(rt: HostRuntime) -> Result<(), Fail> {
-    let alloc = rt.alloc();
-    let lines = lines_of_all(alloc)?;
-    let replies = replies_to_all(alloc)?;
-    assert!(rt; answers(alloc, &lines, &replies));
+    let lines = lines_of_all(&rt)?;
+    let replies = replies_to_all(&rt)?;
+    assert!(rt; answers(&rt, &lines, &replies));
     Ok(())
 }
 
 // A transaction that pushes an item more than it can hold.
-fn lines_of_many_locks(alloc: Global) -> Result<String, AllocError> {
-    let mut lines = String::new(alloc);
+fn lines_of_many_locks(rt: &HostRuntime) -> Result<String, AllocError> {
+    let mut lines = String::new(rt.alloc());
     lines.push_str("t begin\nt make array a 1\n")?;
     push_times(&mut lines, 4093, "t push a x\n")?;
     lines.push_str("t push a x\nt len a")?;
@@ -193,11 +194,11 @@ fn lines_of_many_locks(alloc: Global) -> Result<String, AllocError> {
 }
 
 // What it is answered.
-fn replies_to_many_locks(alloc: Global) -> Result<String, AllocError> {
-    let mut replies = String::new(alloc);
+fn replies_to_many_locks(rt: &HostRuntime) -> Result<String, AllocError> {
+    let mut replies = String::new(rt.alloc());
     replies.push_str("ok\nok\n")?;
     for n in 0..4093u32 {
-        replies.push_str(&format!(in alloc; "ok {n}\n")?)?;
+        replies.push_str(&format!(in rt.alloc(); "ok {n}\n")?)?;
     }
     replies.push_str("error locks-full\nok 4093\n")?;
     Ok(replies)
@@ -206,9 +207,8 @@ fn replies_to_many_locks(alloc: Global) -> Result<String, AllocError> {
 // A transaction holds an array, its kind, its length and each item that it pushed.
 #[test]
 fn as_much_is_held_as_may_be(rt: HostRuntime) -> Result<(), Fail> {
-    let alloc = rt.alloc();
-    let lines = lines_of_many_locks(alloc)?;
-    let replies = replies_to_many_locks(alloc)?;
-    assert!(rt; answers(alloc, &lines, &replies));
+    let lines = lines_of_many_locks(&rt)?;
+    let replies = replies_to_many_locks(&rt)?;
+    assert!(rt; answers(&rt, &lines, &replies));
     Ok(())
 }

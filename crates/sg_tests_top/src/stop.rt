@@ -1,13 +1,12 @@
 use crate::trial::{copy_of, new_store, run, run_in_pieces, run_stopped};
 use sg_disk::MemDisk;
 use sg_top::Status;
-use std::alloc::Global;
 
 const SCRIPT: &[u8] = b"t begin\nt make array a 3\nt push a abc\nt commit";
 
 // How many calls of the disk a run of a script over this store makes.
-fn calls_of(alloc: Global, store: &MemDisk, script: &[u8]) -> Option<u64> {
-    let left = run(alloc, copy_of(alloc, store)?, script)?;
+fn calls_of(rt: &HostRuntime, store: &MemDisk, script: &[u8]) -> Option<u64> {
+    let left = run(rt, copy_of(rt, store)?, script)?;
     Some(left.disk.call_count())
 }
 
@@ -30,8 +29,8 @@ const NO_RUNS: &str = "run d --stop-after 18446744073709551616,\
     --stop-after 6 run d";
 
 // Whether the script goes so with these words over a new store: how it ends, and whether there is a reply. No call is refused.
-fn words_go(alloc: Global, words: &str, status: Status, are_replies: bool) -> bool {
-    match new_store(alloc).and_then(|disk| run_in_pieces(alloc, words, disk, SCRIPT, 65_536)) {
+fn words_go(rt: &HostRuntime, words: &str, status: Status, are_replies: bool) -> bool {
+    match new_store(rt).and_then(|disk| run_in_pieces(rt, words, disk, SCRIPT, 65_536)) {
         Some(left) => {
             left.status == status && left.refused == 0 && left.replies().is_empty() != are_replies
         }
@@ -40,10 +39,10 @@ fn words_go(alloc: Global, words: &str, status: Status, are_replies: bool) -> bo
 }
 
 // How many rows of words these are, where all go so.
-fn all_go(alloc: Global, rows: &str, status: Status, are_replies: bool) -> Option<usize> {
+fn all_go(rt: &HostRuntime, rows: &str, status: Status, are_replies: bool) -> Option<usize> {
     let mut count = 0usize;
     for words in rows.split(',') {
-        if !words_go(alloc, words, status, are_replies) {
+        if !words_go(rt, words, status, are_replies) {
             return None;
         }
         count = count.saturating_add(1);
@@ -53,9 +52,8 @@ fn all_go(alloc: Global, rows: &str, status: Status, are_replies: bool) -> Optio
 
 #[test]
 fn words_with_a_stop(rt: HostRuntime) {
-    let alloc = rt.alloc();
-    let runs = all_go(alloc, RUNS, Status::Done, true);
-    let no_runs = all_go(alloc, NO_RUNS, Status::Usage, false);
+    let runs = all_go(&rt, RUNS, Status::Done, true);
+    let no_runs = all_go(&rt, NO_RUNS, Status::Usage, false);
     assert_eq!(rt; [runs, no_runs], [Some(5), Some(9)]);
 }
 
@@ -86,27 +84,27 @@ fn acknowledged(replies: &[u8]) -> usize {
 }
 
 // The number of commits whose objects a store over this disk shows.
-fn commits_shown(alloc: Global, disk: MemDisk) -> Option<usize> {
-    let left = run(alloc, disk, ITEMS)?;
+fn commits_shown(rt: &HostRuntime, disk: MemDisk) -> Option<usize> {
+    let left = run(rt, disk, ITEMS)?;
     AFTER.iter().position(|replies| *replies == left.replies())
 }
 
 // A run of the three over a copy of the store that is stopped: how many commits were acknowledged, and what a crash leaves.
 fn three_stopped(
-    alloc: Global,
+    rt: &HostRuntime,
     store: &MemDisk,
     calls: u64,
     pick: u64,
 ) -> Option<(usize, MemDisk)> {
-    let left = run_stopped(alloc, copy_of(alloc, store)?, THREE, calls)?;
+    let left = run_stopped(rt, copy_of(rt, store)?, THREE, calls)?;
     Some((acknowledged(left.replies()), left.disk.crash(pick)))
 }
 
 // The number of commits that a store shows over a copy of what is left where its opening was stopped after so many calls
 // before, and crashed.
-fn look_stopped(alloc: Global, disk: &MemDisk, calls: u64, pick: u64) -> Option<usize> {
-    let left = run_stopped(alloc, copy_of(alloc, disk)?, ITEMS, calls)?;
-    commits_shown(alloc, left.disk.crash(pick))
+fn look_stopped(rt: &HostRuntime, disk: &MemDisk, calls: u64, pick: u64) -> Option<usize> {
+    let left = run_stopped(rt, copy_of(rt, disk)?, ITEMS, calls)?;
+    commits_shown(rt, left.disk.crash(pick))
 }
 
 // Whether the second number is the first, or one more.
@@ -116,9 +114,9 @@ fn is_next(least: usize, shown: usize) -> bool {
 
 // Whether a store shows the objects after some first commits, so many as were acknowledged or one more, however its opening was
 // stopped before.
-fn looks_go(alloc: Global, disk: &MemDisk, least: usize, pick: u64) -> bool {
+fn looks_go(rt: &HostRuntime, disk: &MemDisk, least: usize, pick: u64) -> bool {
     for calls in 0..6u64 {
-        match look_stopped(alloc, disk, calls.saturating_mul(9), pick) {
+        match look_stopped(rt, disk, calls.saturating_mul(9), pick) {
             Some(shown) if is_next(least, shown) => {}
             _ => return false,
         }
@@ -127,19 +125,19 @@ fn looks_go(alloc: Global, disk: &MemDisk, least: usize, pick: u64) -> bool {
 }
 
 // Whether a run goes as it should that is stopped after so many calls, then opened and stopped again, and then opened whole.
-fn three_go(alloc: Global, store: &MemDisk, calls: u64, pick: u64) -> bool {
-    match three_stopped(alloc, store, calls, pick) {
-        Some((least, disk)) => looks_go(alloc, &disk, least, pick.saturating_add(1)),
+fn three_go(rt: &HostRuntime, store: &MemDisk, calls: u64, pick: u64) -> bool {
+    match three_stopped(rt, store, calls, pick) {
+        Some((least, disk)) => looks_go(rt, &disk, least, pick.saturating_add(1)),
         None => false,
     }
 }
 
 // The first number of calls that goes otherwise, of each third one up to the number that a whole run makes.
-fn first_wrong_of_three(alloc: Global) -> Option<u64> {
-    let store = new_store(alloc)?;
-    let calls = calls_of(alloc, &store, THREE)?;
+fn first_wrong_of_three(rt: &HostRuntime) -> Option<u64> {
+    let store = new_store(rt)?;
+    let calls = calls_of(rt, &store, THREE)?;
     for n in 0..calls.min(400) {
-        if n % 3 == 0 && !three_go(alloc, &store, n, n.saturating_mul(0x9e37_79b9)) {
+        if n % 3 == 0 && !three_go(rt, &store, n, n.saturating_mul(0x9e37_79b9)) {
             return Some(n);
         }
     }
@@ -150,18 +148,18 @@ fn first_wrong_of_three(alloc: Global) -> Option<u64> {
 // the objects after some first commits, all acknowledged ones among them.
 #[test]
 fn stopped_and_opened_twice(rt: HostRuntime) {
-    assert_eq!(rt; first_wrong_of_three(rt.alloc()), None);
+    assert_eq!(rt; first_wrong_of_three(&rt), None);
 }
 
 // Whether a whole run acknowledges all three, and is shown.
-fn whole_goes(alloc: Global) -> Option<bool> {
-    let store = new_store(alloc)?;
-    let (least, disk) = three_stopped(alloc, &store, u64::MAX, 0)?;
-    let shown = commits_shown(alloc, disk)?;
+fn whole_goes(rt: &HostRuntime) -> Option<bool> {
+    let store = new_store(rt)?;
+    let (least, disk) = three_stopped(rt, &store, u64::MAX, 0)?;
+    let shown = commits_shown(rt, disk)?;
     Some(least == 3 && shown == 3)
 }
 
 #[test]
 fn a_whole_run_is_shown(rt: HostRuntime) {
-    assert_eq!(rt; whole_goes(rt.alloc()), Some(true));
+    assert_eq!(rt; whole_goes(&rt), Some(true));
 }

@@ -4,19 +4,19 @@ use crate::trial::{Left, answered, copy_of, goes, new_store, run, run_from, run_
 use sg_base::{Failed, MemSource, Source};
 use sg_disk::{CallKind, MemDisk};
 use sg_top::Status;
-use std::alloc::{AllocError, Global};
+use std::alloc::AllocError;
 
 const FIRST: &str = "t begin\nt make array a 3\nt push a abc\nt set a 0 xyz\nt get a 0\nt commit";
 
 const FIRST_REPLIES: &str = "ok\nok\nok 0\nok\nok xyz\nok\n";
 
 // Whether the first script gets its replies where it comes in pieces of so many bytes.
-fn pieces_go(alloc: Global, piece: usize) -> bool {
+fn pieces_go(rt: &HostRuntime, piece: usize) -> bool {
     if piece == 0 {
         return false;
     }
-    match new_store(alloc) {
-        Some(disk) => match run_in_pieces(alloc, "run store", disk, FIRST.as_bytes(), piece) {
+    match new_store(rt) {
+        Some(disk) => match run_in_pieces(rt, "run store", disk, FIRST.as_bytes(), piece) {
             Some(left) => left.is(Status::Done, FIRST_REPLIES.as_bytes()),
             None => false,
         },
@@ -27,7 +27,7 @@ fn pieces_go(alloc: Global, piece: usize) -> bool {
 #[test]
 fn the_first_script_in_any_pieces(rt: HostRuntime) {
     for piece in [1usize, 2, 3, 7, 65_536] {
-        assert!(rt; pieces_go(rt.alloc(), piece));
+        assert!(rt; pieces_go(&rt, piece));
     }
 }
 
@@ -76,9 +76,9 @@ const HOSTILE: [(&str, &str); 16] = [
 ];
 
 // The number of the first script that is answered otherwise.
-fn first_wrong(alloc: Global) -> Option<usize> {
+fn first_wrong(rt: &HostRuntime) -> Option<usize> {
     for (number, (script, replies)) in HOSTILE.iter().enumerate() {
-        if !goes(alloc, script.as_bytes(), Status::Done, replies.as_bytes()) {
+        if !goes(rt, script.as_bytes(), Status::Done, replies.as_bytes()) {
             return Some(number);
         }
     }
@@ -87,35 +87,34 @@ fn first_wrong(alloc: Global) -> Option<usize> {
 
 #[test]
 fn hostile_lines(rt: HostRuntime) {
-    assert_eq!(rt; first_wrong(rt.alloc()), None);
+    assert_eq!(rt; first_wrong(&rt), None);
 }
 
 // So many spaces, and these bytes behind them.
-fn spaces(alloc: Global, count: usize, behind: &[u8]) -> Result<Vec<u8>, AllocError> {
-    let mut script = vec![in alloc; b' '; count]?;
+fn spaces(rt: &HostRuntime, count: usize, behind: &[u8]) -> Result<Vec<u8>, AllocError> {
+    let mut script = vec![in rt.alloc(); b' '; count]?;
     script.extend_from_slice(behind)?;
     Ok(script)
 }
 
 // Whether such a script is answered so.
-fn spaces_go(alloc: Global, count: usize, behind: &[u8], replies: &[u8]) -> bool {
-    match spaces(alloc, count, behind) {
-        Ok(script) => goes(alloc, &script, Status::Done, replies),
+fn spaces_go(rt: &HostRuntime, count: usize, behind: &[u8], replies: &[u8]) -> bool {
+    match spaces(rt, count, behind) {
+        Ok(script) => goes(rt, &script, Status::Done, replies),
         Err(_) => false,
     }
 }
 
 #[test]
 fn the_longest_line(rt: HostRuntime) {
-    let alloc = rt.alloc();
-    let longest = spaces_go(alloc, 32_768, b"", b"");
-    let longer = spaces_go(alloc, 32_769, b"\nt begin", b"error syntax\nok\n");
+    let longest = spaces_go(&rt, 32_768, b"", b"");
+    let longer = spaces_go(&rt, 32_769, b"\nt begin", b"error syntax\nok\n");
     assert_eq!(rt; [longest, longer], [true, true]);
 }
 
 // Whether the words are no command, and nothing is asked of the disk.
-fn are_no_command(alloc: Global, words: &str) -> bool {
-    match run_in_pieces(alloc, words, MemDisk::new(alloc), b"t begin", 8) {
+fn are_no_command(rt: &HostRuntime, words: &str) -> bool {
+    match run_in_pieces(rt, words, MemDisk::new(rt.alloc()), b"t begin", 8) {
         Some(left) => left.status == Status::Usage && left.disk.call_count() == 0,
         None => false,
     }
@@ -126,7 +125,7 @@ fn other_words_are_no_command(rt: HostRuntime) {
     for words in "run,runs store,run store more,store run,init store more,init,gen 7 0,gen 7,help".split(
         ',',
     ) {
-        assert!(rt; are_no_command(rt.alloc(), words));
+        assert!(rt; are_no_command(&rt, words));
     }
 }
 
@@ -134,8 +133,8 @@ fn other_words_are_no_command(rt: HostRuntime) {
 const DRAWN: &[u8] = b"\ns commit\nt2 begin\nt2 paint b 19462 1436 2 x:4d\nt2 commit\n";
 
 // Whether a workload is written, and nothing is asked of the disk: six lines and 64 pushes come first.
-fn workload_goes(alloc: Global) -> bool {
-    match run_in_pieces(alloc, "gen 0 2", MemDisk::new(alloc), b"t begin", 8) {
+fn workload_goes(rt: &HostRuntime) -> bool {
+    match run_in_pieces(rt, "gen 0 2", MemDisk::new(rt.alloc()), b"t begin", 8) {
         Some(left) => {
             left.status == Status::Done
                 && left.disk.call_count() == 0
@@ -149,12 +148,12 @@ fn workload_goes(alloc: Global) -> bool {
 
 #[test]
 fn a_workload_is_written(rt: HostRuntime) {
-    assert!(rt; workload_goes(rt.alloc()));
+    assert!(rt; workload_goes(&rt));
 }
 
 // What a run over a new store leaves whose source comes in pieces of so many bytes, where a call of the source or of the sink fails.
 fn run_failing(
-    alloc: Global,
+    rt: &HostRuntime,
     script: &[u8],
     piece: usize,
     source_fails: Option<u64>,
@@ -162,19 +161,19 @@ fn run_failing(
 ) -> Option<Left>
     requires { 0 < piece }
 {
-    let disk = new_store(alloc)?;
-    match script.to_vec(alloc) {
+    let disk = new_store(rt)?;
+    match script.to_vec(rt.alloc()) {
         Ok(text) => {
             let mut source = MemSource::new(text, piece, source_fails);
-            run_from(alloc, "run store", disk, &mut source, sink_fails)
+            run_from(rt, "run store", disk, &mut source, sink_fails)
         }
         Err(_) => None,
     }
 }
 
 // Whether a run ends so whose source fails at the third call.
-fn failing_source_goes(alloc: Global) -> bool {
-    match run_failing(alloc, b"t begin\nt commit", 8, Some(3), None) {
+fn failing_source_goes(rt: &HostRuntime) -> bool {
+    match run_failing(rt, b"t begin\nt commit", 8, Some(3), None) {
         Some(left) => left.is(Status::Read, b"ok\n"),
         None => false,
     }
@@ -182,13 +181,13 @@ fn failing_source_goes(alloc: Global) -> bool {
 
 #[test]
 fn a_source_that_fails(rt: HostRuntime) {
-    assert!(rt; failing_source_goes(rt.alloc()));
+    assert!(rt; failing_source_goes(&rt));
 }
 
 // Whether a run ends so whose sink fails at the second call.
-fn failing_sink_goes(alloc: Global) -> bool {
+fn failing_sink_goes(rt: &HostRuntime) -> bool {
     let script = b"t begin\nt commit\nu begin\nu commit";
-    match run_failing(alloc, script, 64, None, Some(2)) {
+    match run_failing(rt, script, 64, None, Some(2)) {
         Some(left) => left.is(Status::Write, b"ok\n"),
         None => false,
     }
@@ -196,20 +195,16 @@ fn failing_sink_goes(alloc: Global) -> bool {
 
 #[test]
 fn a_sink_that_fails(rt: HostRuntime) {
-    assert!(rt; failing_sink_goes(rt.alloc()));
+    assert!(rt; failing_sink_goes(&rt));
 }
 
 // Whether a run over a new store ends with one fault of the disk and these replies where the nth call of that kind fails.
-fn failing_disk_goes(alloc: Global, kind: CallKind, nth: u64, replies: &[u8]) -> bool {
-    match new_store(alloc).and_then(|disk| copy_of(alloc, &disk)) {
+fn failing_disk_goes(rt: &HostRuntime, kind: CallKind, nth: u64, replies: &[u8]) -> bool {
+    match new_store(rt).and_then(|disk| copy_of(rt, &disk)) {
         Some(disk) => {
             let mut disk = disk;
             disk.fail(kind, nth);
-            match run(
-                alloc,
-                disk,
-                b"t begin\nt commit\nu begin\nu commit\nv begin",
-            ) {
+            match run(rt, disk, b"t begin\nt commit\nu begin\nu commit\nv begin") {
                 Some(left) => left.is(Status::Disk, replies) && left.disk.fault_count() == 1,
                 None => false,
             }
@@ -221,10 +216,9 @@ fn failing_disk_goes(alloc: Global, kind: CallKind, nth: u64, replies: &[u8]) ->
 // An opening of a new store writes nothing, and a commit writes twice.
 #[test]
 fn a_disk_that_fails(rt: HostRuntime) {
-    let alloc = rt.alloc();
     let replies = b"ok\nok\nok\nerror disk\nerror stopped\n";
-    assert!(rt; failing_disk_goes(alloc, CallKind::Write, 3, replies));
-    assert!(rt; failing_disk_goes(alloc, CallKind::Sync, 1, b""));
+    assert!(rt; failing_disk_goes(&rt, CallKind::Write, 3, replies));
+    assert!(rt; failing_disk_goes(&rt, CallKind::Sync, 1, b""));
 }
 
 // A source of so many bytes that it doesn't hold, each piece of which ends a line.
@@ -250,26 +244,22 @@ impl Source for LongLines {
 }
 
 // How a script of so many bytes ends.
-fn end_of_long(alloc: Global, size: u64) -> Option<Status> {
+fn end_of_long(rt: &HostRuntime, size: u64) -> Option<Status> {
     let mut source = LongLines { left: size };
-    let disk = new_store(alloc)?;
-    let left = run_from(alloc, "run store", disk, &mut source, None)?;
+    let disk = new_store(rt)?;
+    let left = run_from(rt, "run store", disk, &mut source, None)?;
     Some(left.status)
 }
 
 #[test]
 fn a_script_has_a_greatest_length(rt: HostRuntime) {
-    let alloc = rt.alloc();
-    let ends = [
-        end_of_long(alloc, 268_435_456),
-        end_of_long(alloc, 268_435_457),
-    ];
+    let ends = [end_of_long(&rt, 268_435_456), end_of_long(&rt, 268_435_457)];
     assert_eq!(rt; ends, [Some(Status::Done), Some(Status::TooLong)]);
 }
 
 // Whether a session that answers the first script ends so, with these replies.
-fn session_goes(alloc: Global, sink_fails: Option<u64>, status: Status, replies: &[u8]) -> bool {
-    match answered(alloc, FIRST, sink_fails) {
+fn session_goes(rt: &HostRuntime, sink_fails: Option<u64>, status: Status, replies: &[u8]) -> bool {
+    match answered(rt, FIRST, sink_fails) {
         Some(left) => left.is(status, replies),
         None => false,
     }
@@ -277,8 +267,7 @@ fn session_goes(alloc: Global, sink_fails: Option<u64>, status: Status, replies:
 
 #[test]
 fn a_session_answers_each_line(rt: HostRuntime) {
-    let alloc = rt.alloc();
-    assert!(rt; session_goes(alloc, None, Status::Done, FIRST_REPLIES.as_bytes()));
+    assert!(rt; session_goes(&rt, None, Status::Done, FIRST_REPLIES.as_bytes()));
     // The sink fails at the third line, and later lines are answered to no one.
-    assert!(rt; session_goes(alloc, Some(3), Status::Write, b"ok\nok\n"));
+    assert!(rt; session_goes(&rt, Some(3), Status::Write, b"ok\nok\n"));
 }

@@ -12,7 +12,7 @@ use sg_making::Geometry;
 use sg_mount::init_store;
 use sg_ops::Ops;
 use sg_top::{Finish, Session, Status, stasis};
-use std::alloc::{AllocError, Global};
+use std::alloc::AllocError;
 
 // A disk that tells nothing, so that a session over it asks for nothing.
 type Silent = Quiet<MemDisk>;
@@ -49,8 +49,8 @@ impl Left {
 }
 
 /// A disk that has a store without objects.
-pub fn new_store(alloc: Global) -> Option<MemDisk> {
-    let mut disk = MemDisk::new(alloc);
+pub fn new_store(rt: &HostRuntime) -> Option<MemDisk> {
+    let mut disk = MemDisk::new(rt.alloc());
     match init_store(&mut disk, &SIZES) {
         Ok(()) => Some(disk),
         Err(_) => None,
@@ -58,40 +58,40 @@ pub fn new_store(alloc: Global) -> Option<MemDisk> {
 }
 
 /// A disk with the same contents, all of them stable.
-pub fn copy_of(alloc: Global, disk: &MemDisk) -> Option<MemDisk> {
-    if let Ok(home) = disk.home().to_vec(alloc)
-        && let Ok(log0) = disk.log0().to_vec(alloc)
-        && let Ok(log1) = disk.log1().to_vec(alloc)
+pub fn copy_of(rt: &HostRuntime, disk: &MemDisk) -> Option<MemDisk> {
+    if let Ok(home) = disk.home().to_vec(rt.alloc())
+        && let Ok(log0) = disk.log0().to_vec(rt.alloc())
+        && let Ok(log1) = disk.log1().to_vec(rt.alloc())
     {
-        Some(MemDisk::of(alloc, home, log0, log1))
+        Some(MemDisk::of(rt.alloc(), home, log0, log1))
     } else {
         None
     }
 }
 
-fn words_of(alloc: Global, text: &str) -> Result<Vec<String>, AllocError> {
-    let mut words = Vec::new(alloc);
+fn words_of(rt: &HostRuntime, text: &str) -> Result<Vec<String>, AllocError> {
+    let mut words = Vec::new(rt.alloc());
     for word in text.split(' ') {
-        words.push(word.to_string(alloc)?)?;
+        words.push(word.to_string(rt.alloc())?)?;
     }
     Ok(words)
 }
 
 // Does what the words say, with these operations.
 fn run_words<S: Source>(
-    alloc: Global,
+    rt: &HostRuntime,
     ops: Ops,
     words: &[String],
     disk: MemDisk,
     script: &mut S,
     sink_fails: Option<u64>,
 ) -> Left {
-    let mut out = MemSink::new(alloc, sink_fails);
+    let mut out = MemSink::new(rt.alloc(), sink_fails);
     let Finish {
         status,
         disk,
         refused,
-    } = stasis(alloc, ops, words, disk, script, &mut out);
+    } = stasis(rt, rt.alloc(), ops, words, disk, script, &mut out);
     Left {
         status,
         disk,
@@ -102,16 +102,16 @@ fn run_words<S: Source>(
 
 /// Does what the words say, with the shipped operations. The sink's n-th call fails where n is given.
 pub fn run_from<S: Source>(
-    alloc: Global,
+    rt: &HostRuntime,
     words: &str,
     disk: MemDisk,
     script: &mut S,
     sink_fails: Option<u64>,
 ) -> Option<Left> {
-    if let Ok(words) = words_of(alloc, words)
-        && let Ok(ops) = Ops::shipped(alloc)
+    if let Ok(words) = words_of(rt, words)
+        && let Ok(ops) = Ops::shipped(rt.alloc())
     {
-        Some(run_words(alloc, ops, &words, disk, script, sink_fails))
+        Some(run_words(rt, ops, &words, disk, script, sink_fails))
     } else {
         None
     }
@@ -119,7 +119,7 @@ pub fn run_from<S: Source>(
 
 /// The same with a script that comes in pieces of so many bytes.
 pub fn run_in_pieces(
-    alloc: Global,
+    rt: &HostRuntime,
     words: &str,
     disk: MemDisk,
     script: &[u8],
@@ -127,53 +127,53 @@ pub fn run_in_pieces(
 ) -> Option<Left>
     requires { 0 < piece }
 {
-    match script.to_vec(alloc) {
+    match script.to_vec(rt.alloc()) {
         Ok(text) => {
             let mut source = MemSource::new(text, piece, None);
-            run_from(alloc, words, disk, &mut source, None)
+            run_from(rt, words, disk, &mut source, None)
         }
         Err(_) => None,
     }
 }
 
 /// Runs a script.
-pub fn run(alloc: Global, disk: MemDisk, script: &[u8]) -> Option<Left> {
-    run_in_pieces(alloc, "run store", disk, script, 65_536)
+pub fn run(rt: &HostRuntime, disk: MemDisk, script: &[u8]) -> Option<Left> {
+    run_in_pieces(rt, "run store", disk, script, 65_536)
 }
 
 /// Runs a script over a disk that makes so many calls.
-pub fn run_stopped(alloc: Global, disk: MemDisk, script: &[u8], calls: u64) -> Option<Left> {
-    match format!(in alloc; "run store --stop-after {calls}") {
-        Ok(words) => run_in_pieces(alloc, words.as_str(), disk, script, 65_536),
+pub fn run_stopped(rt: &HostRuntime, disk: MemDisk, script: &[u8], calls: u64) -> Option<Left> {
+    match format!(in rt.alloc(); "run store --stop-after {calls}") {
+        Ok(words) => run_in_pieces(rt, words.as_str(), disk, script, 65_536),
         Err(_) => None,
     }
 }
 
 /// Runs a script, and hands back the disk where the run is done with these replies.
-pub fn done(alloc: Global, disk: MemDisk, script: &[u8], replies: &[u8]) -> Option<MemDisk> {
-    match run(alloc, disk, script) {
+pub fn done(rt: &HostRuntime, disk: MemDisk, script: &[u8], replies: &[u8]) -> Option<MemDisk> {
+    match run(rt, disk, script) {
         Some(left) if left.is(Status::Done, replies) => Some(left.disk),
         _ => None,
     }
 }
 
 /// Whether a script over a new store ends so, with these replies.
-pub fn goes(alloc: Global, script: &[u8], status: Status, replies: &[u8]) -> bool {
-    match new_store(alloc) {
-        Some(disk) => run_goes(alloc, disk, script, status, replies),
+pub fn goes(rt: &HostRuntime, script: &[u8], status: Status, replies: &[u8]) -> bool {
+    match new_store(rt) {
+        Some(disk) => run_goes(rt, disk, script, status, replies),
         None => false,
     }
 }
 
 /// Whether a script over this disk ends so, with these replies.
 pub fn run_goes(
-    alloc: Global,
+    rt: &HostRuntime,
     disk: MemDisk,
     script: &[u8],
     status: Status,
     replies: &[u8],
 ) -> bool {
-    match run(alloc, disk, script) {
+    match run(rt, disk, script) {
         Some(left) => left.is(status, replies),
         None => false,
     }
@@ -181,7 +181,7 @@ pub fn run_goes(
 
 // Answers lines, which stand behind one another with an LF between.
 fn answer_lines(
-    alloc: Global,
+    rt: &HostRuntime,
     ops: &Ops,
     session: Lines,
     lines: &str,
@@ -191,23 +191,23 @@ fn answer_lines(
 {
     let mut session = session;
     for line in lines.split('\n') {
-        let _ = session.line(alloc, ops, line.as_bytes(), out);
+        let _ = session.line(rt.alloc(), ops, line.as_bytes(), out);
     }
     session.finish(ops)
 }
 
 // What a session with these operations leaves that answers lines.
 fn answered_with(
-    alloc: Global,
+    rt: &HostRuntime,
     ops: &Ops,
     disk: MemDisk,
     lines: &str,
     sink_fails: Option<u64>,
 ) -> Option<Left> {
-    match Lines::start(alloc, ops, Quiet { inner: disk }) {
+    match Lines::start(rt, rt.alloc(), ops, Quiet { inner: disk }) {
         Ok(session) => {
-            let mut out = MemSink::new(alloc, sink_fails);
-            let (status, Quiet { inner }) = answer_lines(alloc, ops, session, lines, &mut out);
+            let mut out = MemSink::new(rt.alloc(), sink_fails);
+            let (status, Quiet { inner }) = answer_lines(rt, ops, session, lines, &mut out);
             Some(Left {
                 status,
                 disk: inner,
@@ -221,16 +221,16 @@ fn answered_with(
 
 /// What a session over a new store leaves that answers lines, with the shipped operations. The sink's
 /// n-th call fails where n is given.
-pub fn answered(alloc: Global, lines: &str, sink_fails: Option<u64>) -> Option<Left> {
-    match Ops::shipped(alloc) {
-        Ok(ops) => answered_with(alloc, &ops, new_store(alloc)?, lines, sink_fails),
+pub fn answered(rt: &HostRuntime, lines: &str, sink_fails: Option<u64>) -> Option<Left> {
+    match Ops::shipped(rt.alloc()) {
+        Ok(ops) => answered_with(rt, &ops, new_store(rt)?, lines, sink_fails),
         Err(_) => None,
     }
 }
 
 /// Whether a session over a new store answers lines so, and has no fault.
-pub fn answers(alloc: Global, lines: &str, replies: &str) -> bool {
-    match answered(alloc, lines, None) {
+pub fn answers(rt: &HostRuntime, lines: &str, replies: &str) -> bool {
+    match answered(rt, lines, None) {
         Some(left) => left.is(Status::Done, replies.as_bytes()),
         None => false,
     }

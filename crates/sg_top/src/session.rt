@@ -17,6 +17,7 @@ use sg_script::Room;
 use sg_session::Names;
 use std::alloc::Global;
 use std::marker::PhantomData;
+use std::thread::Threads;
 
 // Whether an answer was written, for a store that has stopped so or hasn't: where the sink failed before that, it is noted.
 fn heard(written: Result<(), Failed>, stop: Option<Stop>, unheard: &mut bool) -> Result<(), Failed>
@@ -85,7 +86,12 @@ impl<D: Presumed, E: Opens<D>> SessionOver<D, E> {
 
     /// Opens the store on a disk, whose records are of these operations. What is presumed of the disk is that the
     /// image which reads give is that of a store. A refusal hands the disk back, as opening left it.
-    pub fn start(alloc: Global, ops: &Ops, disk: D) -> Result<SessionOver<D, E>, Unopened<D>>
+    pub fn start<R: Threads + Sync>(
+        rt: &R,
+        alloc: Global,
+        ops: &Ops,
+        disk: D,
+    ) -> Result<SessionOver<D, E>, Unopened<D>>
         requires presumed { IsPresumed E.basis E.says (table_of record_meaning range_meaning ops.now) D.told D.presumed (D.view disk) }
         ensures serves { IfOk result (λ s. Serves (table_of record_meaning range_meaning ops.now) s.inner) }
         ensures opens { IfOk result (λ s. IsOpened E.basis E.says (table_of record_meaning range_meaning ops.now) D.told D.presumed (D.view disk) (E.view (session_engine s.inner)) (session_core s.inner).store) }
@@ -98,7 +104,7 @@ impl<D: Presumed, E: Opens<D>> SessionOver<D, E> {
             return Err(Unopened { why, disk });
         };
         let Rooms { room, names } = rooms;
-        match E::open(alloc, ops, disk) {
+        match E::open(rt, alloc, ops, disk) {
             Ok(store) => Ok(SessionOver {
                 inner: sg_session::Session::over(store, names),
                 unheard: false,

@@ -19,9 +19,11 @@ use sg_paged::Paged;
 use sg_pages::Phys;
 use std::alloc::Global;
 use std::marker::Brand;
+use std::thread::Threads;
 
 // The same over a fuse with this mark, which says how the disk was handed in and what is presumed of it.
-fn serve_pages<D: Disk, S: Source, K: Sink, O: Origin + Presumes>(
+fn serve_pages<R: Threads + Sync, D: Disk, S: Source, K: Sink, O: Origin + Presumes>(
+    rt: &R,
     alloc: Global,
     ops: Ops,
     words: &[String],
@@ -50,7 +52,7 @@ fn serve_pages<D: Disk, S: Source, K: Sink, O: Origin + Presumes>(
     ensures heeded { (result.status ≡ Status.Disk → ⊥) → ((D.view result.disk).faults ≡ (D.view disk).faults) × (result.refused ≡ 0) }
     ensures spent { Spent (stop_after words.now) (D.view disk).calls (D.view result.disk).calls result.refused }
 {
-    serve::<D, S, K, O, Paged<Phys<Fuse<D, O>>>>(alloc, ops, words, disk, script, out)
+    serve::<R, D, S, K, O, Paged<Phys<Fuse<D, O>>>>(rt, alloc, ops, words, disk, script, out)
 }
 
 /// Does what the words say, with the script that the source gives, over the disk: `run` and a folder,
@@ -67,7 +69,8 @@ fn serve_pages<D: Disk, S: Source, K: Sink, O: Origin + Presumes>(
 ///
 /// It serves, and is safe, over any disk. What is said of contents is said where the disk tells what it holds and
 /// the image that reads give at the call stands for objects by these operations.
-pub fn stasis<D: Disk, S: Source, K: Sink>(
+pub fn stasis<R: Threads + Sync, D: Disk, S: Source, K: Sink>(
+    rt: &R,
     alloc: Global,
     ops: Ops,
     words: &[String],
@@ -108,5 +111,5 @@ pub fn stasis<D: Disk, S: Source, K: Sink>(
     // The stop: no more calls than it lets pass, and one refused only behind exactly so many.
     ensures spent { Spent (stop_after words.now) (D.view disk).calls (D.view result.disk).calls result.refused }
 {
-    serve_pages::<D, S, K, Brand>(alloc, ops, words, disk, script, out)
+    serve_pages::<R, D, S, K, Brand>(rt, alloc, ops, words, disk, script, out)
 }

@@ -17,6 +17,7 @@ use sg_store::Store;
 use std::alloc::Global;
 use std::marker::Brand;
 use std::sync::ledger::{Blank, Ledger};
+use std::thread::Threads;
 
 /// The engine of a store on a disk.
 pub type DiskEngine<D> = Paged<Phys<D>>;
@@ -25,7 +26,8 @@ pub type DiskEngine<D> = Paged<Phys<D>>;
 pub type DiskStore<D> = Store<DiskEngine<D>>;
 
 // Opens it, and counts its steps for no one.
-fn open_with<D: Presumed, L: Ledger>(
+fn open_with<R: Threads + Sync, D: Presumed, L: Ledger>(
+    rt: &R,
     alloc: Global,
     ops: &Ops,
     disk: D,
@@ -41,16 +43,17 @@ fn open_with<D: Presumed, L: Ledger>(
     ensures shut { IsTrue D.told → AreShut (D.view disk) → MatchResult result (λ s. ⊥) (λ u. (u.fault ≡ MountFault.NotAStore) ⊎ (u.fault ≡ MountFault.Disk)) }
 {
     let mut steps = Steps::<L>::open(blank);
-    sg_mount::open_store(alloc, ops, disk, &mut steps)
+    sg_mount::open_store(rt, alloc, ops, disk, &mut steps)
 }
 
-/// Opens the store of a disk, with the operations that its log needs: what a crash interrupted is repeated or undone, and what was
+/// Opens the store of a disk, with the operations that its log needs: what a crash interrupted is repeated, in threads, or undone, and what was
 /// dropped is freed.
 ///
 /// Where the disk tells its contents, and what is presumed of it holds, the image that reads give stands for some objects: nothing else
 /// is asked, and of `FolderDisk` and `Silent` nothing at all. The store has these objects then. On any other disk opening is safe, returns, and says
 /// why it refused. A refusal hands the disk back, as opening left it.
-pub fn open_store<D: Presumed>(
+pub fn open_store<R: Threads + Sync, D: Presumed>(
+    rt: &R,
     alloc: Global,
     ops: &Ops,
     disk: D,
@@ -65,5 +68,5 @@ pub fn open_store<D: Presumed>(
     // where no store was made it is refused, and for that alone
     ensures shut { IsTrue D.told → AreShut (D.view disk) → MatchResult result (λ s. ⊥) (λ u. (u.fault ≡ MountFault.NotAStore) ⊎ (u.fault ≡ MountFault.Disk)) }
 {
-    open_with::<D, Brand>(alloc, ops, disk, Blank::new(1))
+    open_with::<R, D, Brand>(rt, alloc, ops, disk, Blank::new(1))
 }
