@@ -1,8 +1,5 @@
-//! Tests of the home area: its superblock, the batches of pages that go there, and the space that looks at it.
-//! Each module has those of one crate.
+//! Tests of the home area, of `sg_gate`: its superblock, and the batches of pages that go there.
 #![tactic(auto)]
 
 #[cfg(test)]
 mod gate;
-#[cfg(test)]
-mod home;
