@@ -54,7 +54,7 @@ fn take_pool(alloc: Global, geometry: &Super) -> Result<Pool, OpenFault>
 
 /// Opens a store: what a crash left is made durable and read, an open batch is laid over, and history is
 /// repeated from the redo point on, of pages many at a time, in threads. All memory that it needs is taken before the first write, and none
-/// of it is for the whole log: that is read three times, first frame by frame and then in stretches. Where the little that threads want is
+/// of it is for the whole log: that is read four times, first frame by frame and then in stretches. Where the little that threads want is
 /// refused then, pages are done one after another.
 ///
 /// Where what was read can be opened, `Ok` is a running engine: its pages and bands are what the

@@ -1,5 +1,7 @@
 -- What a line's going says of its answer.
-use Rattle.std.proofs.Common.{◌≡◌, ℕ, List, Option, None, sym, ap, ◌∙◌, subst}
+use Rattle.std.proofs.Common.{◌≡◌, ℕ, List, Option, Some, None, sym, ap, ◌∙◌, subst}
+use Rattle.std.specs.Prelude.{IfSome}
+use Rattle.sg_serial.specs.Runs.{Live}
 use Rattle.sg_ops.specs.Table.{Table as Operations}
 use Rattle.sg_words.specs.Answers.{Answer}
 use Rattle.sg_words.specs.Requests.{Asked, asked}
@@ -15,7 +17,7 @@ use Rattle.sg_store.specs.declared.engine.Engine.{Ghosts}
 use Rattle.sg_store.specs.Engine.{View}
 use Rattle.sg_store.specs.Store as stores
 use Rattle.sg_store.proofs.Holding as holding
-use Rattle.sg_session.specs.KeptUp.{IsKeptUp, IfTruncates}
+use Rattle.sg_session.specs.KeptUp.{IsKeptUp, IfTruncates, committed_by}
 use Rattle.sg_session.specs.Lines.{Line, line_by, line_of}
 use Rattle.sg_session.specs.Lines.Line.{Other}
 use Rattle.sg_session.specs.Shows.{Core}
@@ -50,6 +52,17 @@ module _ (t : Operations) (g : Ground) (lawful : IsLawful t g) (v : View g) (x :
             let is = holding.reads_so t g lawful w h.after m.store.live k in
             ap g.objects (some_one o (holding.reading t g lawful w h.after m.store.live k) (sym reads ∙ is.reading)) ∙ holding.objects_so t g lawful w h.after m.store.live k);
       }
+
+-- a name that no live transaction has, and one that one has
+pub none_named : (P : Live → Type 0) (o : Option Live) → None ≡ o → IfSome o P
+none_named P o e = subst (λ (x : Option Live). IfSome x P) e tt
+
+pub one_named : (P : Live → Type 0) (l : Live) (o : Option Live) → Some l ≡ o → P l → IfSome o P
+one_named P l o e p = subst (λ (x : Option Live). IfSome x P) e p
+
+-- a line that is no commit hands over what it does
+pub no_commit : (P : List ℕ → Type 0) (k l : Line) → committed_by k ≡ None → k ≡ l → IfSome (committed_by l) P
+no_commit P k l none is = subst (λ (o : Option (List ℕ)). IfSome o P) (sym none ∙ ap committed_by is) tt
 
 -- and nothing of a truncation, which it doesn't ask for
 pub other_cuts : (P : Type 0) (line : Asked) (l : Line) → Other line ≡ l → IfTruncates l P

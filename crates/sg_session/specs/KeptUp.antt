@@ -1,6 +1,9 @@
--- What a line that asks for a flush or a checkpoint leaves of the log and the disk.
-use Rattle.std.specs.Prelude.{◌≤◌, ◌+◌, ℕ, ⊤}
+-- What a line that asks for a flush or a checkpoint leaves of the log and the disk, and which lines commit.
+use Rattle.std.specs.Prelude.{◌≤◌, ◌+◌, ℕ, List, Option, Some, None, ⊤}
 use Rattle.sg_checkpoints.specs.Checkpoints.{HasMarked, StaysMarked}
+use Rattle.sg_words.specs.Requests.{Asked}
+use Rattle.sg_words.specs.Requests.Asked.{Blank, Wrong, Of}
+use Rattle.sg_words.specs.Requests.Request.{Begin, Commit, Abort, Do}
 use Rattle.sg_words.specs.declared.upkeep.Upkeep.TheVariants as upkeeps
 use Rattle.sg_store.specs.declared.engine.Engine.{Ghosts}
 use Rattle.sg_session.specs.Lines.{Line}
@@ -24,6 +27,19 @@ module _ {E : Type 0} (ghosts : Ghosts E) where
   IsKeptUp (OfStore upkeeps.Checkpoint) e f = IsCheckpointed e f
   IsKeptUp (OfStore upkeeps.Truncate) e f = ⊤
   IsKeptUp (Other line) e f = ⊤
+
+-- the name of the transaction that a line asks to commit, if it asks for that
+abbrev pub name_committed : Asked → Option (List ℕ)
+name_committed Blank = None
+name_committed Wrong = None
+name_committed (Of name Begin) = None
+name_committed (Of name Commit) = Some name
+name_committed (Of name Abort) = None
+name_committed (Of name (Do op)) = None
+
+abbrev pub committed_by : Line → Option (List ℕ)
+committed_by (OfStore upkeep) = None
+committed_by (Other line) = name_committed line
 
 -- behind a line that asks for a truncation this holds
 abbrev pub IfTruncates : Line → Type 0 → Type 0

@@ -53,7 +53,7 @@ impl<E: Objects> Session<E> {
     ghost use Rattle.sg_session.specs.Goes.{Goes};
     ghost use Rattle.sg_session.specs.Ending.{HasAborted, IsClosed, IsEnded};
     ghost use Rattle.sg_checkpoints.specs.Checkpoints.{EndsMarked};
-    ghost use Rattle.sg_session.specs.Seen.{session_core, session_engine, Serves, IsServed, HasKeptUp};
+    ghost use Rattle.sg_session.specs.Seen.{session_core, session_engine, Serves, IsServed, HasKeptUp, HandsAtCommit};
 
     /// A session over a store that has no live transaction. Where memory is refused the store is handed
     /// back; no other call takes any.
@@ -121,6 +121,7 @@ impl<E: Objects> Session<E> {
         requires running { self.old.store.stop ≡ None }
         requires serves { Serves (table_of record_meaning range_meaning ops.now) self.old }
         ensures caused { (into : List ℕ) → Caused (E.view self.old.store.engine) (E.view self.new.store.engine) self.old.store.stop self.new.store.stop (Other (Of name Commit)) (shown_answer into result) }
+        ensures hands { HandsAtCommit (Other (Of name Commit)) self.old self.new }
         ensures told { (E.view self.new.store.engine).Told → (E.view self.old.store.engine).Told }
         ensures heeds { Heeds self.old.store.stop self.new.store.stop (E.view self.old.store.engine) (E.view self.new.store.engine) }
         ensures means { KeepsBy (table_of record_meaning range_meaning ops.now) (E.view self.old.store.engine) (E.view self.new.store.engine) }
@@ -303,9 +304,6 @@ impl<E: Objects> Session<E> {
 }
 
 impl<E: Truncates> Session<E> {
-    ghost use Rattle.std.specs.Prelude.{option_map, slice_get};
-    ghost use Rattle.sg_checkpoints.specs.Cutting.{IsCut};
-    ghost use Rattle.sg_core.specs.Live.{number_of};
     ghost use Rattle.sg_run.specs.Run.{Run};
     ghost use Rattle.sg_store.specs.Ground.{IsLawful};
     ghost use Rattle.sg_store.specs.Engine.{Keeps, AsMeant};
@@ -314,16 +312,14 @@ impl<E: Truncates> Session<E> {
     ghost use Rattle.sg_session.specs.Shows.{Shows};
     ghost use Rattle.sg_session.specs.Causes.{Caused};
     ghost use Rattle.sg_session.specs.Goes.{Goes};
-    ghost use Rattle.sg_session.specs.KeptUp.{IfTruncates};
-    ghost use Rattle.sg_session.specs.Seen.{session_core, IsServed, HasKeptUp};
+    ghost use Rattle.sg_session.specs.Seen.{session_core, IsServed, HasKeptUp, HasCut};
 
     // What isn't wanted any more is cut off of the log.
     fn truncate(&mut self) -> Answer
         requires running { self.old.store.stop ≡ None }
         requires serves { IsServed self.old }
         ensures caused { (into : List ℕ) → Caused (E.view self.old.store.engine) (E.view self.new.store.engine) self.old.store.stop self.new.store.stop (OfStore Upkeep.Truncate) (shown_answer into result) }
-        ensures cuts { self.new.store.stop ≡ None → (E.view self.old.store.engine).Told → IsCut (E.unwritten self.old.store.engine) (option_map number_of (slice_get self.old.store.txns 0)) (E.last_checkpoint self.old.store.engine) (E.is_spent self.old.store.engine)
-            (E.view self.old.store.engine).start (E.view self.new.store.engine).start (E.first_frame_end self.new.store.engine) }
+        ensures cuts { HasCut E.first_frame_end E.last_checkpoint E.is_spent (OfStore Upkeep.Truncate) self.old self.new }
         ensures told { (E.view self.new.store.engine).Told → (E.view self.old.store.engine).Told }
         ensures heeds { Heeds self.old.store.stop self.new.store.stop (E.view self.old.store.engine) (E.view self.new.store.engine) }
         ensures means { Keeps (E.view self.old.store.engine) (E.view self.new.store.engine) }
@@ -343,8 +339,7 @@ impl<E: Truncates> Session<E> {
         requires serves { IsServed self.old }
         ensures caused { (into : List ℕ) → Caused (E.view self.old.store.engine) (E.view self.new.store.engine) self.old.store.stop self.new.store.stop (OfStore upkeep) (shown_answer into result) }
         ensures kept_up { HasKeptUp (OfStore upkeep) self.old self.new }
-        ensures cuts { self.new.store.stop ≡ None → IfTruncates (OfStore upkeep) ((E.view self.old.store.engine).Told → IsCut (E.unwritten self.old.store.engine) (option_map number_of (slice_get self.old.store.txns 0)) (E.last_checkpoint self.old.store.engine) (E.is_spent self.old.store.engine)
-            (E.view self.old.store.engine).start (E.view self.new.store.engine).start (E.first_frame_end self.new.store.engine)) }
+        ensures cuts { HasCut E.first_frame_end E.last_checkpoint E.is_spent (OfStore upkeep) self.old self.new }
         ensures told { (E.view self.new.store.engine).Told → (E.view self.old.store.engine).Told }
         ensures heeds { Heeds self.old.store.stop self.new.store.stop (E.view self.old.store.engine) (E.view self.new.store.engine) }
         ensures means { Keeps (E.view self.old.store.engine) (E.view self.new.store.engine) }
@@ -361,9 +356,6 @@ impl<E: Truncates> Session<E> {
 }
 
 impl<E: Lists + Truncates> Session<E> {
-    ghost use Rattle.std.specs.Prelude.{option_map, slice_get};
-    ghost use Rattle.sg_checkpoints.specs.Cutting.{IsCut};
-    ghost use Rattle.sg_core.specs.Live.{number_of};
     ghost use Rattle.sg_run.specs.Run.{Run};
     ghost use Rattle.sg_store.specs.Ground.{IsLawful};
     ghost use Rattle.sg_store.specs.Engine.{Keeps, KeepsBy, AsMeant, AsMeantBy};
@@ -373,9 +365,8 @@ impl<E: Lists + Truncates> Session<E> {
     ghost use Rattle.sg_session.specs.Shows.{Shows};
     ghost use Rattle.sg_session.specs.Causes.{Caused};
     ghost use Rattle.sg_session.specs.Goes.{Goes, Answers, when_stopped};
-    ghost use Rattle.sg_session.specs.KeptUp.{IfTruncates};
     ghost use Rattle.sg_session.specs.OneLine.{OneLine};
-    ghost use Rattle.sg_session.specs.Seen.{session_core, Serves, IsServed, HasAnswered, HasKeptUp};
+    ghost use Rattle.sg_session.specs.Seen.{session_core, Serves, IsServed, HasAnswered, HasKeptUp, HasCut, HandsAtCommit};
 
     // The keys of a table, asked by the transaction with this name.
     fn keys(&mut self, alloc: Global, name: Name, table: Name) -> Answered
@@ -435,8 +426,8 @@ impl<E: Lists + Truncates> Session<E> {
         ensures still { IsSome self.old.store.stop → shown into.new result ≡ when_stopped (line_of text.now) }
         ensures caused { Caused (E.view self.old.store.engine) (E.view self.new.store.engine) self.old.store.stop self.new.store.stop (line_of text.now) (shown into.new result) }
         ensures kept_up { HasKeptUp (line_of text.now) self.old self.new }
-        ensures cuts { self.new.store.stop ≡ None → IfTruncates (line_of text.now) ((E.view self.old.store.engine).Told → IsCut (E.unwritten self.old.store.engine) (option_map number_of (slice_get self.old.store.txns 0)) (E.last_checkpoint self.old.store.engine) (E.is_spent self.old.store.engine)
-            (E.view self.old.store.engine).start (E.view self.new.store.engine).start (E.first_frame_end self.new.store.engine)) }
+        ensures hands { self.old.store.stop ≡ None → HandsAtCommit (line_of text.now) self.old self.new }
+        ensures cuts { HasCut E.first_frame_end E.last_checkpoint E.is_spent (line_of text.now) self.old self.new }
         ensures told { (E.view self.new.store.engine).Told → (E.view self.old.store.engine).Told }
         ensures heeds { Heeds self.old.store.stop self.new.store.stop (E.view self.old.store.engine) (E.view self.new.store.engine) }
         ensures means { KeepsBy (table_of record_meaning range_meaning ops.now) (E.view self.old.store.engine) (E.view self.new.store.engine) }
@@ -495,8 +486,9 @@ impl<E: Lists + Truncates> Session<E> {
         // the answer has its cause, and the session has stopped for what it says
         ensures caused { Caused (E.view self.old.store.engine) (E.view self.new.store.engine) self.old.store.stop self.new.store.stop (line_of text.now) (shown into.new result) }
         ensures kept_up { HasKeptUp (line_of text.now) self.old self.new }
-        ensures cuts { self.new.store.stop ≡ None → IfTruncates (line_of text.now) ((E.view self.old.store.engine).Told → IsCut (E.unwritten self.old.store.engine) (option_map number_of (slice_get self.old.store.txns 0)) (E.last_checkpoint self.old.store.engine) (E.is_spent self.old.store.engine)
-            (E.view self.old.store.engine).start (E.view self.new.store.engine).start (E.first_frame_end self.new.store.engine)) }
+        // a commit that drops nothing hands over little more than its log
+        ensures hands { self.old.store.stop ≡ None → HandsAtCommit (line_of text.now) self.old self.new }
+        ensures cuts { HasCut E.first_frame_end E.last_checkpoint E.is_spent (line_of text.now) self.old self.new }
         ensures heeds { Heeds self.old.store.stop self.new.store.stop (E.view self.old.store.engine) (E.view self.new.store.engine) }
         ensures told { (E.view self.new.store.engine).Told → (E.view self.old.store.engine).Told }
         ensures means { KeepsBy (table_of record_meaning range_meaning ops.now) (E.view self.old.store.engine) (E.view self.new.store.engine) }
@@ -547,8 +539,9 @@ impl<E: Lists + Truncates> Session<E> {
             → OneLine t g v x (line_of text.now) w self.new.store.stop) }
         // a flush, a checkpoint and a truncation that don't stop the session are made
         ensures kept_up { HasKeptUp (line_of text.now) self.old self.new }
-        ensures cuts { self.new.store.stop ≡ None → IfTruncates (line_of text.now) ((E.view self.old.store.engine).Told → IsCut (E.unwritten self.old.store.engine) (option_map number_of (slice_get self.old.store.txns 0)) (E.last_checkpoint self.old.store.engine) (E.is_spent self.old.store.engine)
-            (E.view self.old.store.engine).start (E.view self.new.store.engine).start (E.first_frame_end self.new.store.engine)) }
+        // a commit that drops nothing hands over little more than its log
+        ensures hands { self.old.store.stop ≡ None → HandsAtCommit (line_of text.now) self.old self.new }
+        ensures cuts { HasCut E.first_frame_end E.last_checkpoint E.is_spent (line_of text.now) self.old self.new }
         ensures quiet { OnOk result (K.faults out.new ≡ K.faults out.old) }
         ensures failed { OnErr result (HasRisen (K.faults out.old) (K.faults out.new)) }
     {

@@ -81,7 +81,7 @@ impl<D: Presumed, E: Opens<D>> SessionOver<D, E> {
     ghost use Rattle.sg_store.specs.Heeds.{Heeds};
     ghost use Rattle.sg_session.specs.Lines.{line_of};
     ghost use Rattle.sg_session.specs.OneLine.{OneLine};
-    ghost use Rattle.sg_session.specs.Seen.{session_core, session_engine, Serves, HasAnswered};
+    ghost use Rattle.sg_session.specs.Seen.{session_core, session_engine, Serves, HasAnswered, HasKeptUp, HasCut, HandsAtCommit};
     ghost use Rattle.sg_session.specs.Shows.{Shows};
 
     /// Opens the store on a disk, whose records are of these operations. What is presumed of the disk is that the
@@ -161,6 +161,11 @@ impl<D: Presumed, E: Opens<D>> SessionOver<D, E> {
             (session_core self.old.inner).store.stopped ≡ None → AsMeantBy t (E.view (session_engine self.old.inner)) (E.view (session_engine self.new.inner)) (λ g v w.
             (x : Run) → IsLawful t g → Shows t g v (session_core self.old.inner) x
             → OneLine t g v x (line_of text.now) w (session_core self.new.inner).store.stopped) }
+        // A flush, a checkpoint and a truncation that don't stop the session are made, and a commit that drops nothing hands
+        // over little more than its log.
+        ensures kept_up { HasKeptUp (line_of text.now) self.old.inner self.new.inner }
+        ensures cuts { HasCut E.first_frame_end E.last_checkpoint E.is_spent (line_of text.now) self.old.inner self.new.inner }
+        ensures hands { (session_core self.old.inner).store.stopped ≡ None → HandsAtCommit (line_of text.now) self.old.inner self.new.inner }
         ensures quiet { OnOk result (K.faults out.new ≡ K.faults out.old) }
         ensures failed { OnErr result (HasRisen (K.faults out.old) (K.faults out.new)) }
         // The session's status is that of its first fault: in a line the store stops before the sink fails.

@@ -9,6 +9,7 @@ use Rattle.sg_store.specs.Seen.{core_of}
 use Rattle.sg_store.specs.Store.{Core}
 use Rattle.sg_session.specs.Lines.Line.{Other}
 use Rattle.sg_session.specs.Causes.{trouble_of}
+use Rattle.sg_session.proofs.Answering.{none_named, one_named}
 use Rattle.sg_session.proofs.Causing as causing
 use Rattle.sg_words.specs.Requests.Request.{Commit}
 use Rattle.std.proofs.Common.{refl, ap}
@@ -46,3 +47,12 @@ pub returns-in-Err-clause-caused : goal.returns-in-Err-clause-caused
 returns-in-Err-clause-caused g c into =
     causing.by_trouble (g.E.Engine.view c.args.self.now.store.engine) (g.E.Engine.view c.commit.new.self.engine) c.args.self.now.store.stop c.commit.new.self.stop (Other (Of c.args.name Commit)) (shown_answer into c.answer_to.result) (trouble_of c.in-Err.why) (c.answer_to.ensures.trouble into) c.requires.running c.commit.ensures.heeds
     (causing.commit_refused (g.E.Engine.view c.args.self.now.store.engine) (g.E.Engine.view c.commit.new.self.engine) (core_of c.args.self.now.store) (core_of c.commit.new.self) c.args.name c.in-Some.named.txn.0 c.in-Err.why c.in-Err.ensures.causes)
+
+pub returns-in_default-clause-hands : goal.returns-in_default-clause-hands
+returns-in_default-clause-hands g c = none_named _ _ c.in_default.ensures
+
+pub returns-in-Ok-clause-hands : goal.returns-in-Ok-clause-hands
+returns-in-Ok-clause-hands g c = one_named _ _ _ c.in-Some.ensures c.commit.ensures.hands
+
+pub returns-in-Err-clause-hands : goal.returns-in-Err-clause-hands
+returns-in-Err-clause-hands g c = one_named _ _ _ c.in-Some.ensures c.commit.ensures.hands

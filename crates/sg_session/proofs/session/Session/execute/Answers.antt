@@ -10,7 +10,7 @@ use Rattle.sg_words.specs.Requests.Request.{Begin, Commit, Abort, Do}
 use Rattle.sg_words.specs.Requested.{shown}
 use Rattle.sg_words.specs.declared.request.Request as code_request
 use Rattle.sg_store.specs.Engine.{led}
-use Rattle.sg_session.specs.Seen.{session_core}
+use Rattle.sg_session.specs.Seen.{session_core, HandsAtCommit}
 use Rattle.sg_session.specs.Goes.{when_stopped}
 use Rattle.sg_store.proofs.Heeding as heeding
 use Rattle.sg_session.proofs.Steps as steps
@@ -224,3 +224,36 @@ returns-else-is_some-clause-cuts g c none =
     (λ (l : Line). IfTruncates l ((g.E.Engine.view old.engine).Told → IsCut (g.E.Engine.unwritten old.engine) (option_map number_of (slice_get old.txns 0)) (g.E.Truncates.last_checkpoint old.engine) (g.E.Truncates.is_spent old.engine)
     (g.E.Engine.view old.engine).start (g.E.Engine.view new.engine).start (g.E.Truncates.first_frame_end new.engine)))
     (answering.line_is c.args.text.now Wrong _ (sym c.in-Wrong.ensures.asked) (sym c.in-Some.ensures)) (c.keep_up.ensures.cuts none)
+
+pub returns-in-Blank-clause-hands : goal.returns-in-Blank-clause-hands
+returns-in-Blank-clause-hands g c none = answering.no_commit _ _ _ refl (answering.is_blank c.args.text.now (sym c.in-Blank.ensures.asked))
+
+pub returns-in_default-clause-hands : goal.returns-in_default-clause-hands
+returns-in_default-clause-hands g c none = answering.no_commit _ _ _ refl (answering.line_is c.args.text.now Wrong _ (sym c.in-Wrong.ensures.asked) (sym c.in_default.ensures))
+
+pub returns-then-is_some-2-clause-hands : goal.returns-then-is_some-2-clause-hands
+returns-then-is_some-2-clause-hands g c none = heeding.not_stopped c.args.self.now.store.stop (ap is_some none) (ap is_some (sym c.stop-in-Of.ensures) ∙ (sym c.is_some-in-Of.ensures ∙ c.if-is_some-2.true))
+
+pub returns-in-Begin-clause-hands : goal.returns-in-Begin-clause-hands
+returns-in-Begin-clause-hands g c none = answering.no_commit _ _ _ refl (answering.is_of c.args.text.now c.in-Of.name Begin (sym c.in-Of.ensures.asked ∙ ap (λ (r : code_request.Request). Of c.in-Of.name (shown r)) c.in-Begin.is))
+
+pub returns-in-Commit-clause-hands : goal.returns-in-Commit-clause-hands
+returns-in-Commit-clause-hands g c none = subst (λ (l : Line). HandsAtCommit l c.args.self.now c.commit.new.self) (answering.is_of c.args.text.now c.in-Of.name Commit (sym c.in-Of.ensures.asked ∙ ap (λ (r : code_request.Request). Of c.in-Of.name (shown r)) c.in-Commit.is)) c.commit.ensures.hands
+
+pub returns-in-Abort-clause-hands : goal.returns-in-Abort-clause-hands
+returns-in-Abort-clause-hands g c none = answering.no_commit _ _ _ refl (answering.is_of c.args.text.now c.in-Of.name Abort (sym c.in-Of.ensures.asked ∙ ap (λ (r : code_request.Request). Of c.in-Of.name (shown r)) c.in-Abort.is))
+
+pub returns-in-Do-clause-hands : goal.returns-in-Do-clause-hands
+returns-in-Do-clause-hands g c none = answering.no_commit _ _ _ refl (answering.is_of c.args.text.now c.in-Of.name (Do (said_op c.in-Do.op)) (sym c.in-Of.ensures.asked ∙ ap (λ (r : code_request.Request). Of c.in-Of.name (shown r)) c.in-Do.is))
+
+pub returns-in-Keys-clause-hands : goal.returns-in-Keys-clause-hands
+returns-in-Keys-clause-hands g c none = answering.no_commit _ _ _ refl (answering.is_of c.args.text.now c.in-Of.name (Do (On c.in-Keys.table Keys)) (sym c.in-Of.ensures.asked ∙ ap (λ (r : code_request.Request). Of c.in-Of.name (shown r)) c.in-Keys.is))
+
+pub returns-in-List-clause-hands : goal.returns-in-List-clause-hands
+returns-in-List-clause-hands g c none = answering.no_commit _ _ _ refl (answering.is_of c.args.text.now c.in-Of.name (Do Names) (sym c.in-Of.ensures.asked ∙ ap (λ (r : code_request.Request). Of c.in-Of.name (shown r)) c.in-List.is))
+
+pub returns-then-is_some-clause-hands : goal.returns-then-is_some-clause-hands
+returns-then-is_some-clause-hands g c none = heeding.not_stopped c.args.self.now.store.stop (ap is_some none) (ap is_some (sym c.stop.ensures) ∙ (sym c.is_some.ensures ∙ c.if-is_some.true))
+
+pub returns-else-is_some-clause-hands : goal.returns-else-is_some-clause-hands
+returns-else-is_some-clause-hands g c none = answering.no_commit _ _ _ refl (answering.line_is c.args.text.now Wrong _ (sym c.in-Wrong.ensures.asked) (sym c.in-Some.ensures))
