@@ -1,6 +1,7 @@
 #!/usr/bin/env bash
 # Opens stores over logs of growing length, and prints for each how long that takes and the greatest memory that the
-# program used, which is the system's own account of it. The first word: how many commits the shortest log has (2,000
+# program used, which is the system's own account of it. Beside that: how many records of the log come to a second of it, and how many times as long it
+# takes as reading the same files does. The first word: how many commits the shortest log has (2,000
 # where none is given); each later log has twice as many as the one before it. The other words: which kinds of logs, and without one all.
 #
 # There are six kinds of logs, each of commits of one line. The program writes them itself. It comes to its end, and so makes a checkpoint and writes all
@@ -128,6 +129,27 @@ def opened(store):
     return process.returncode if reply == b"ok\n" else f"{process.returncode} without a reply", seconds, memory
 
 
+def record_count(store):
+    """How many records the log has: its listing has a line for each behind the first."""
+    listing = subprocess.run([program, "log", store], stdin=subprocess.DEVNULL, stdout=subprocess.PIPE, check=True)
+    return listing.stdout.count(b"\n") - 1
+
+
+def seconds_to_read(store):
+    """The seconds that reading all bytes of the store's files takes, of five times the least."""
+    least_time = None
+    for _ in range(5):
+        start = time.monotonic()
+        for name in ("home", "log0", "log1"):
+            if os.path.exists(f"{store}/{name}"):
+                with open(f"{store}/{name}", "rb", buffering=0) as file:
+                    while file.read(1 << 20):
+                        pass
+        seconds = time.monotonic() - start
+        least_time = seconds if least_time is None else min(least_time, seconds)
+    return least_time
+
+
 for kind in kinds:
     for times in [1, 2, 4, 8]:
         store = f"{folder}/{kind}-{times}"
@@ -135,6 +157,11 @@ for kind in kinds:
         if kind == "left":
             leave_one(store)
         size = os.path.getsize(f"{store}/log0")
+        records, reading = record_count(store), seconds_to_read(store)
         status, seconds, memory = opened(store)
-        print(f"{kind:6} {least * times:7} commits {size:9} bytes: status {status}, {seconds:.3f} seconds, {memory} KiB", flush=True)
+        print(
+            f"{kind:6} {least * times:7} commits {size:9} bytes: status {status}, {seconds:.3f} seconds, {memory} KiB;"
+            f" {records} records, {records / seconds:.0f} a second; {seconds / reading:.1f} times as long as reading the files",
+            flush=True,
+        )
 PYTHON
