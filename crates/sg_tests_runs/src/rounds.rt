@@ -158,10 +158,23 @@ fn stopped_where_the_first_half_of_each_call_is(rt: HostRuntime) {
     assert_eq!(rt; rounds(&rt, Course::Objects, TORN), Ok(5));
 }
 
-// The last call's bytes are there, aren't, are others, and are there by half, and those of all calls before are there.
+// Behind these four all bytes of earlier calls are there. Those of the last call are, aren't, are others, and are by half.
 #[test]
-fn a_script_that_cuts_the_log_is_stopped(rt: HostRuntime) {
-    for pick in 0..4u64 {
-        assert_eq!(rt; rounds(&rt, Course::Cut, pick), Ok(2));
-    }
+fn cut_and_stopped_where_all_bytes_are_there(rt: HostRuntime) {
+    assert_eq!(rt; rounds(&rt, Course::Cut, ALL), Ok(2));
+}
+
+#[test]
+fn cut_and_stopped_where_the_last_are_not(rt: HostRuntime) {
+    assert_eq!(rt; rounds(&rt, Course::Cut, 1), Ok(2));
+}
+
+#[test]
+fn cut_and_stopped_where_the_last_are_others(rt: HostRuntime) {
+    assert_eq!(rt; rounds(&rt, Course::Cut, 2), Ok(2));
+}
+
+#[test]
+fn cut_and_stopped_where_the_last_are_there_by_half(rt: HostRuntime) {
+    assert_eq!(rt; rounds(&rt, Course::Cut, 3), Ok(2));
 }
