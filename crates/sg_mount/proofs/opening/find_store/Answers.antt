@@ -25,11 +25,12 @@ use Rattle.sg_mount.specs.declared.fault.MountFault.TheVariants as mounts
 use Rattle.sg_mount.proofs.Found.{first, first_sized, found_on, is_of, losers_are, memory_back, opening_back, opening_shut, q}
 use Rattle.sg_mount.proofs.opening.find_store.Goals as goal
 
-pub attach-requires : goal.attach-requires
-attach-requires g c =
+pub attach-requires-clause-found : goal.attach-requires-clause-found
+attach-requires-clause-found g c ls lf is p s accepted =
     let t : Table = table_of (λ p. (goal.RecordOp-dyn g p).record_meaning p.1) (λ p. (goal.RangeOp-dyn g p).range_meaning p.1) c.args.ops.now in
     let i = reads (g.D.Disk.view c.args.disk) in
-    record { found = λ is p s accepted. (let some = c.requires.stands is p in ∣ (first t i some.objects some.stands, (q t i some.objects some.stands).log, (q t i some.objects some.stands).log, is_of t i some.objects some.stands) ∣₁) }
+    let some = c.requires.stands is p in
+    ∣ (first t i some.objects some.stands, (q t i some.objects some.stands).log, (q t i some.objects some.stands).log, is_of t i some.objects some.stands) ∣₁
 
 pub returns-clause-refused : goal.returns-clause-refused
 returns-clause-refused g c =

@@ -8,8 +8,8 @@ use Rattle.sg_mount.specs.declared.fault.MountFault.{MountFault}
 use Rattle.sg_mount.proofs.Opened.{found_with, handed_back, has_opened}
 use Rattle.sg_mount.proofs.opening.open_store.Goals as goal
 
-pub find_store-requires : goal.find_store-requires
-find_store-requires g c = record { stands = c.requires.stands }
+pub find_store-requires-clause-stands : goal.find_store-requires-clause-stands
+find_store-requires-clause-stands g c ls lf = c.requires.stands
 
 pub attach-requires : goal.attach-requires
 attach-requires g c =
