@@ -27,7 +27,7 @@ struct Start {
     before: u64,
 }
 
-fn start(rt: &impl Host) -> Option<Start> {
+fn new_start(rt: &impl Host) -> Option<Start> {
     let store = new_store_of(rt, &SIZES)?;
     let calls = calls_of_lines(rt, &store, SCRIPT, WHOLE)?;
     Some(Start {
@@ -88,7 +88,7 @@ fn are_of_commit(disk: &MemDisk) -> bool {
 
 // Whether the line is answered by the fourth call alone, and the calls are those.
 fn calls_go(rt: &impl Host) -> Option<bool> {
-    let start = start(rt)?;
+    let start = new_start(rt)?;
     let left = start.stopped(rt, CALLS)?;
     let is_early = start.answers(rt, 0, STOPPED) && start.answers(rt, 3, STOPPED);
     Some(is_early && left.is(Status::Disk, WHOLE) && are_of_commit(&left.disk))
@@ -101,7 +101,7 @@ fn a_commit_makes_four_calls(rt: HostRuntime) {
 
 // In how many of 16 crashes the old objects are shown where none, one, and two of the calls were made, and in how many the new ones where all were.
 fn shown_around_the_gate(rt: &impl Host) -> Option<[u64; 4]> {
-    let start = start(rt)?;
+    let start = new_start(rt)?;
     Some([
         start.shown_by_crashes(rt, 0, OLD)?,
         start.shown_by_crashes(rt, 1, OLD)?,
@@ -122,7 +122,7 @@ fn with_gate(rt: &impl Host, left: &Left, gate: u8) -> Option<MemDisk> {
 
 // The first byte whose image doesn't show the new objects where it is 1, and the old ones else.
 fn first_wrong_gate(rt: &impl Host) -> Option<u8> {
-    let left = start(rt)?.stopped(rt, 3)?;
+    let left = new_start(rt)?.stopped(rt, 3)?;
     for gate in 0..=255u8 {
         let text = if gate == 1 { NEW } else { OLD };
         let is_right = match with_gate(rt, &left, gate) {
