@@ -17,7 +17,7 @@ use std::alloc::AllocError;
 // A disk that tells nothing, so that a session over it asks for nothing.
 type Silent = Quiet<MemDisk>;
 
-type Lines = Session<Silent>;
+type Lines = Session<HostRuntime, Silent>;
 
 /// A new store is of these sizes.
 const SIZES: Geometry = Geometry {
