@@ -59,7 +59,7 @@ pub struct Flags {
 }
 
 fn zero(alloc: Global) -> Result<Arc<AtomicU64, Global>, AllocError> {
-    Arc::new(alloc, AtomicU64::new(0))
+    Ok(Arc::new(alloc, AtomicU64::new(0))?)
 }
 
 impl Flags {

@@ -1,9 +1,8 @@
-// Checkpoints and truncations: what a script leaves of its log, and what is shown where a run is stopped.
-use crate::trial::{copy_of, done, new_store, run, run_stopped};
+// Checkpoints and truncations: what a script leaves of its log, and what is shown where a truncation is stopped.
+use crate::trial::{Host, copy_of, done, looks_so, new_store, run, run_stopped};
 use sg_base::MemSink;
 use sg_disk::MemDisk;
 use sg_inspect::write_log;
-use sg_top::Status;
 
 // Scripts over a new store, what they are answered, and the listing of the log that they leave: its area, its first byte and
 // its last one, and each record's number, kind, transaction, previous record and length.
@@ -43,14 +42,14 @@ const ROWS: [(&str, &str, &str); 6] = [
 ];
 
 // Whether the log of a store is listed so.
-fn lists(rt: &HostRuntime, disk: MemDisk, listing: &str) -> bool {
+fn lists(rt: &impl Host, disk: MemDisk, listing: &str) -> bool {
     let mut disk = disk;
     let mut sink = MemSink::new(rt.alloc(), None);
     write_log(rt.alloc(), &mut disk, &mut sink).is_ok() && sink.text() == listing.as_bytes()
 }
 
 // Whether a script over a new store is answered so, and leaves that log.
-fn leaves(rt: &HostRuntime, script: &str, replies: &str, listing: &str) -> bool {
+fn leaves(rt: &impl Host, script: &str, replies: &str, listing: &str) -> bool {
     match new_store(rt).and_then(|disk| done(rt, disk, script.as_bytes(), replies.as_bytes())) {
         Some(disk) => lists(rt, disk, listing),
         None => false,
@@ -58,7 +57,7 @@ fn leaves(rt: &HostRuntime, script: &str, replies: &str, listing: &str) -> bool 
 }
 
 // The number of the first row that goes otherwise.
-fn first_wrong(rt: &HostRuntime) -> Option<usize> {
+fn first_wrong(rt: &impl Host) -> Option<usize> {
     for (number, (script, replies, listing)) in ROWS.iter().enumerate() {
         if !leaves(rt, script, replies, listing) {
             return Some(number);
@@ -76,15 +75,15 @@ fn logs_end_with_a_checkpoint(rt: HostRuntime) {
 // other area.
 const CUT: &str = "log 1 78 171\n83 end 5 5 21\n104 checkpoint 0 0 31\n140 checkpoint 0 0 31\n";
 
-// Whether the log of the row before is cut so by a run with one line.
-fn cut_goes(rt: &HostRuntime) -> Option<bool> {
-    let disk = done(
-        rt,
-        new_store(rt)?,
-        b"t begin\nflush\ncheckpoint\nt abort",
-        b"ok\nok\nok\nok\n",
-    )?;
-    let cut = done(rt, disk, b"truncate", b"ok\n")?;
+// The disk that the row with a truncation leaves, which cuts nothing.
+fn uncut(rt: &impl Host) -> Option<MemDisk> {
+    let (script, replies, _) = ROWS[4];
+    done(rt, new_store(rt)?, script.as_bytes(), replies.as_bytes())
+}
+
+// Whether its log is cut so by a run with one line.
+fn cut_goes(rt: &impl Host) -> Option<bool> {
+    let cut = done(rt, uncut(rt)?, b"truncate", b"ok\n")?;
     Some(lists(rt, cut, CUT))
 }
 
@@ -101,7 +100,7 @@ const ALONE: [u8; 37] = [
 ];
 
 // Whether the log of a run without a line begins with these.
-fn alone_goes(rt: &HostRuntime) -> Option<bool> {
+fn alone_goes(rt: &impl Host) -> Option<bool> {
     let disk = done(rt, new_store(rt)?, b"", b"")?;
     Some(disk.log0().starts_with(&ALONE))
 }
@@ -111,119 +110,59 @@ fn redo_begins_at_a_checkpoint_with_nothing_to_write_home(rt: HostRuntime) {
     assert_eq!(rt; alone_goes(&rt), Some(true));
 }
 
-// A transaction that has turned an item twice before a checkpoint and once behind it, and isn't over.
-const TURNED: &[u8] = b"p begin\np make array a 3\np push a abc\np commit\nt begin\n\
-    t apply a 0 3 x:01\nt apply a 0 3 x:01\ncheckpoint\nt apply a 0 3 x:01\nflush";
-
-const TURNED_REPLIES: &[u8] = b"ok\nok\nok 0\nok\nok\nok\nok\nok\nok\nok\n";
-
-// How many calls of the disk a whole run of a script over a copy of this disk makes.
-fn calls_of(rt: &HostRuntime, disk: &MemDisk, script: &[u8]) -> Option<u64> {
-    let left = run(rt, copy_of(rt, disk)?, script)?;
-    Some(left.disk.call_count())
+// A store whose log can be cut: an item, all home, and a checkpoint behind it.
+fn pushed(rt: &impl Host) -> Option<MemDisk> {
+    done(
+        rt,
+        new_store(rt)?,
+        b"p begin\np make array a 3\np push a abc\np commit\nflush\ncheckpoint",
+        b"ok\nok\nok 0\nok\nok\nok\n",
+    )
 }
 
-// How many of them the lines make, without the end of the run: the least number that gets all replies.
-fn calls_of_lines(rt: &HostRuntime, store: &MemDisk) -> Option<u64> {
-    let mut calls = calls_of(rt, store, TURNED)?;
-    for _ in 0..100u32 {
-        let fewer = calls.saturating_sub(1);
-        let left = run_stopped(rt, copy_of(rt, store)?, TURNED, fewer)?;
-        if left.replies() != TURNED_REPLIES {
-            return Some(calls);
-        }
-        calls = fewer;
-    }
-    None
-}
-
-// The disk of a run that is stopped before its end.
-fn cut_off(rt: &HostRuntime) -> Option<MemDisk> {
-    let store = new_store(rt)?;
-    let calls = calls_of_lines(rt, &store)?;
-    let left = run_stopped(rt, copy_of(rt, &store)?, TURNED, calls)?;
-    Some(left.disk.crash(0))
-}
-
-const LOOK: &[u8] = b"u begin\nu get a 0";
-
-// What is left of a copy of a disk whose opening is stopped after so many calls.
-fn stopped(rt: &HostRuntime, disk: &MemDisk, calls: u64, pick: u64) -> Option<MemDisk> {
-    let left = run_stopped(rt, copy_of(rt, disk)?, LOOK, calls)?;
+// What a crash leaves of a run that truncates the log of a copy of a store, and that is stopped after so many calls.
+fn cut_stopped(rt: &impl Host, store: &MemDisk, calls: u64, pick: u64) -> Option<MemDisk> {
+    let left = run_stopped(rt, copy_of(rt, store)?, b"truncate", calls)?;
     Some(left.disk.crash(pick))
 }
 
-// Whether a run over a disk shows the item as it was.
-fn shows(rt: &HostRuntime, disk: MemDisk) -> bool {
-    match run(rt, disk, LOOK) {
-        Some(left) => left.is(Status::Done, b"ok\nok abc\n"),
-        None => false,
-    }
-}
-
-// Whether what is shown is right where an opening is stopped after so many calls, and another one is.
-fn stops_go(rt: &HostRuntime, disk: &MemDisk, calls: u64) -> bool {
-    match stopped(rt, disk, calls, calls).and_then(|first| stopped(
-        rt,
-        &first,
-        calls,
-        calls.saturating_mul(0x9e37_79b9),
-    )) {
-        Some(second) => shows(rt, second),
-        None => false,
-    }
-}
-
-// The first number of calls that goes otherwise, of each second one up to the number that a whole run makes.
-fn first_wrong_of_stops(rt: &HostRuntime) -> Option<u64> {
-    let disk = cut_off(rt)?;
-    let calls = calls_of(rt, &disk, LOOK)?;
-    for n in 0..calls.min(300) {
-        if n % 2 == 0 && !stops_go(rt, &disk, n) {
-            return Some(n);
+// Whether the objects are written so behind such a stop, whatever became of the last call's bytes.
+fn cut_keeps(rt: &impl Host, store: &MemDisk, calls: u64, text: &[u8]) -> bool {
+    for pick in 0..4u64 {
+        let is_kept = match cut_stopped(rt, store, calls, pick) {
+            Some(disk) => looks_so(rt, disk, "dump", text),
+            None => false,
+        };
+        if !is_kept {
+            return false;
         }
     }
-    None
-}
-
-// Whether a run was cut off, and shows the item as it was.
-fn cut_off_shows(rt: &HostRuntime) -> bool {
-    match cut_off(rt) {
-        Some(disk) => shows(rt, disk),
-        None => false,
-    }
-}
-
-#[test]
-fn a_loser_is_taken_back_from_a_checkpoint_on(rt: HostRuntime) {
-    assert!(rt; cut_off_shows(&rt));
-    assert_eq!(rt; first_wrong_of_stops(&rt), None);
-}
-
-// A store whose log can be cut: an item, all home, and a checkpoint behind it.
-const PUSHED: &[u8] = b"p begin\np make array a 3\np push a abc\np commit\nflush\ncheckpoint";
-
-// Whether the item is shown where a run that truncates is stopped after so many calls.
-fn cut_shows(rt: &HostRuntime, disk: &MemDisk, calls: u64) -> bool {
-    match copy_of(rt, disk).and_then(|copy| run_stopped(rt, copy, b"truncate", calls)) {
-        Some(left) => shows(rt, left.disk.crash(calls.saturating_mul(0x9e37_79b9))),
-        None => false,
-    }
+    true
 }
 
 // The first number of calls that goes otherwise, up to the number that a whole run makes.
-fn first_wrong_of_cuts(rt: &HostRuntime) -> Option<u64> {
-    let left = run(rt, new_store(rt)?, PUSHED)?;
-    let calls = calls_of(rt, &left.disk, b"truncate")?;
-    for n in 0..calls.min(300) {
-        if !cut_shows(rt, &left.disk, n) {
+fn first_wrong_of_cuts(rt: &impl Host, store: &MemDisk, text: &[u8]) -> Option<u64> {
+    let left = run(rt, copy_of(rt, store)?, b"truncate")?;
+    for n in 0..left.disk.call_count() {
+        if !cut_keeps(rt, store, n, text) {
             return Some(n);
         }
     }
     None
+}
+
+// The same over a store that is there, and whose objects are written so.
+fn cuts_go(rt: &impl Host, store: Option<MemDisk>, text: &[u8]) -> bool {
+    match store {
+        Some(store) => {
+            cut_keeps(rt, &store, u64::MAX, text) && first_wrong_of_cuts(rt, &store, text) == None
+        }
+        None => false,
+    }
 }
 
 #[test]
 fn a_truncation_that_is_stopped_leaves_the_objects(rt: HostRuntime) {
-    assert_eq!(rt; first_wrong_of_cuts(&rt), None);
+    assert!(rt; cuts_go(&rt, pushed(&rt), b"array a 3 1\n 0 abc\nobjects 1\n"));
+    assert!(rt; cuts_go(&rt, uncut(&rt), b"objects 0\n"));
 }

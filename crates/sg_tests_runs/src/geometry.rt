@@ -1,5 +1,5 @@
 // A new store of sizes that a file says.
-use crate::trial::{Left, copy_of, new_store, run_from, run_goes, run_in_pieces};
+use crate::trial::{Host, Left, copy_of, new_store, run_from, run_goes, run_in_pieces};
 use sg_base::MemSource;
 use sg_disk::MemDisk;
 use sg_top::Status;
@@ -17,7 +17,7 @@ const HEAD: [u8; 44] = [
 ];
 
 // What is left of making a store of the sizes that a text says, on a disk without one.
-fn made(rt: &HostRuntime, text: &[u8]) -> Option<Left> {
+fn made(rt: &impl Host, text: &[u8]) -> Option<Left> {
     run_in_pieces(rt, WORDS, MemDisk::new(rt.alloc()), text, 7)
 }
 
@@ -27,7 +27,7 @@ fn begins(disk: &MemDisk, head: &[u8]) -> bool {
 }
 
 // Whether a store of the least sizes is made so, and answers a script whose array needs more pages than it has.
-fn least_goes(rt: &HostRuntime) -> Option<bool> {
+fn least_goes(rt: &impl Host) -> Option<bool> {
     let left = made(rt, LEAST)?;
     let is_made = left.is(Status::Done, b"ok\n") && begins(&left.disk, &HEAD);
     let script =
@@ -53,7 +53,7 @@ const TEXTS: [(&[u8], Status); 7] = [
 ];
 
 // Whether a text has that end, and makes no call of the disk where it is bad.
-fn text_goes(rt: &HostRuntime, text: &[u8], end: Status) -> bool {
+fn text_goes(rt: &impl Host, text: &[u8], end: Status) -> bool {
     match made(rt, text) {
         Some(left) if end == Status::Done => left.is(end, b"ok\n"),
         Some(left) => left.is(end, b"") && left.disk.call_count() == 0,
@@ -62,7 +62,7 @@ fn text_goes(rt: &HostRuntime, text: &[u8], end: Status) -> bool {
 }
 
 // The number of the first text that has another end.
-fn first_wrong(rt: &HostRuntime) -> Option<usize> {
+fn first_wrong(rt: &impl Host) -> Option<usize> {
     for (number, (text, end)) in TEXTS.iter().enumerate() {
         if !text_goes(rt, text, *end) {
             return Some(number);
@@ -77,7 +77,7 @@ fn a_text_that_says_no_sizes_is_bad(rt: HostRuntime) {
 }
 
 // How making one ends on a disk that has a store, and whether that is as it was.
-fn end_over_a_store(rt: &HostRuntime, text: &[u8]) -> Option<(Status, bool)> {
+fn end_over_a_store(rt: &impl Host, text: &[u8]) -> Option<(Status, bool)> {
     let store = new_store(rt)?;
     let left = run_in_pieces(rt, WORDS, copy_of(rt, &store)?, text, 7)?;
     let same = left.disk.home() == store.home() && left.replies().is_empty();
@@ -95,7 +95,7 @@ fn a_store_is_kept(rt: HostRuntime) {
 }
 
 // How making one ends where the source's n-th read fails, and how many calls of the disk it made.
-fn end_of_failed(rt: &HostRuntime, fails: u64) -> Option<(Status, u64)> {
+fn end_of_failed(rt: &impl Host, fails: u64) -> Option<(Status, u64)> {
     match LEAST.to_vec(rt.alloc()) {
         Ok(text) => {
             let mut source = MemSource::new(text, 20, Some(fails));

@@ -1,5 +1,5 @@
 // The objects of a store, written by the program, and what they come to.
-use crate::trial::{Left, are_same, copy_of, done, new_store, run_from};
+use crate::trial::{Host, Left, are_same, copy_of, done, new_store, run_from};
 use sg_base::{Area, MemSource};
 use sg_disk::{CallKind, MemDisk};
 use sg_top::Status;
@@ -39,14 +39,14 @@ const ROWS: [(&str, &str, &str, &str); 4] = [
 const PAGES: usize = 143_360;
 
 // What is left of a look at a copy of this disk, by these words. Its source may not be read, and the sink's n-th call fails where n is given.
-fn look(rt: &HostRuntime, words: &str, disk: &MemDisk, sink_fails: Option<u64>) -> Option<Left> {
+fn look(rt: &impl Host, words: &str, disk: &MemDisk, sink_fails: Option<u64>) -> Option<Left> {
     let disk = copy_of(rt, disk)?;
     let mut source = MemSource::new(Vec::new(rt.alloc()), 8, Some(1));
     run_from(rt, words, disk, &mut source, sink_fails)
 }
 
 // Whether a look writes this, and leaves the disk of a store that was closed well as it was.
-fn shows(rt: &HostRuntime, words: &str, disk: &MemDisk, text: &str) -> bool {
+fn shows(rt: &impl Host, words: &str, disk: &MemDisk, text: &str) -> bool {
     match look(rt, words, disk, None) {
         Some(left) => left.is(Status::Done, text.as_bytes()) && are_same(&left.disk, disk),
         None => false,
@@ -54,7 +54,7 @@ fn shows(rt: &HostRuntime, words: &str, disk: &MemDisk, text: &str) -> bool {
 }
 
 // Whether the objects that a script leaves are written so, and what they come to.
-fn row_goes(rt: &HostRuntime, script: &str, replies: &str, text: &str, sum: &str) -> Option<bool> {
+fn row_goes(rt: &impl Host, script: &str, replies: &str, text: &str, sum: &str) -> Option<bool> {
     let store = new_store(rt)?;
     let disk = done(rt, store, script.as_bytes(), replies.as_bytes())?;
     let written = shows(rt, "dump store", &disk, text);
@@ -62,7 +62,7 @@ fn row_goes(rt: &HostRuntime, script: &str, replies: &str, text: &str, sum: &str
 }
 
 // The number of the first row that goes otherwise.
-fn first_wrong(rt: &HostRuntime) -> Option<usize> {
+fn first_wrong(rt: &impl Host) -> Option<usize> {
     for (number, (script, replies, text, sum)) in ROWS.iter().enumerate() {
         if row_goes(rt, script, replies, text, sum) != Some(true) {
             return Some(number);
@@ -78,7 +78,7 @@ fn objects_are_written_and_summed(rt: HostRuntime) {
 
 // Whether a look ends so with this text.
 fn ends(
-    rt: &HostRuntime,
+    rt: &impl Host,
     words: &str,
     disk: &MemDisk,
     sink_fails: Option<u64>,
@@ -92,7 +92,7 @@ fn ends(
 }
 
 // Whether zeros are no store for a look, and a superblock with a wrong magic is told with its place.
-fn refusals_go(rt: &HostRuntime, words: &str) -> Option<[bool; 2]> {
+fn refusals_go(rt: &impl Host, words: &str) -> Option<[bool; 2]> {
     let none = MemDisk::new(rt.alloc());
     let mut home = new_store(rt)?.home().to_vec(rt.alloc()).ok()?;
     if home.len() > 1 {
@@ -107,7 +107,7 @@ fn refusals_go(rt: &HostRuntime, words: &str) -> Option<[bool; 2]> {
 }
 
 // Whether the catalogue's first page is told by its first byte where it is of another kind.
-fn spoiled_page_goes(rt: &HostRuntime, words: &str) -> Option<bool> {
+fn spoiled_page_goes(rt: &impl Host, words: &str) -> Option<bool> {
     let (script, replies, _, _) = ROWS[1];
     let store = new_store(rt)?;
     let disk = done(rt, store, script.as_bytes(), replies.as_bytes())?;
@@ -122,7 +122,7 @@ fn spoiled_page_goes(rt: &HostRuntime, words: &str) -> Option<bool> {
 }
 
 // How a look ends where the disk's first read fails.
-fn cut_by_disk(rt: &HostRuntime, words: &str) -> Option<Status> {
+fn cut_by_disk(rt: &impl Host, words: &str) -> Option<Status> {
     let mut disk = new_store(rt)?;
     disk.fail(CallKind::Read, 1);
     let mut source = MemSource::new(Vec::new(rt.alloc()), 8, Some(1));
@@ -131,7 +131,7 @@ fn cut_by_disk(rt: &HostRuntime, words: &str) -> Option<Status> {
 }
 
 // Whether a sink that fails is told, and what it took before: the first lines of the objects of the last row, or nothing.
-fn cuts_go(rt: &HostRuntime) -> Option<[bool; 2]> {
+fn cuts_go(rt: &impl Host) -> Option<[bool; 2]> {
     let (script, replies, _, _) = ROWS[3];
     let store = new_store(rt)?;
     let disk = done(rt, store, script.as_bytes(), replies.as_bytes())?;

@@ -1,5 +1,5 @@
 // An opening repeats records on several pages at once: two operations that wait for one another see each other.
-use crate::trial::{Left, copy_of, new_store, run_with};
+use crate::trial::{Host, Left, copy_of, new_store, run_with};
 use sg_disk::MemDisk;
 use sg_meeting::{Flags, are_taken};
 use sg_ops::Ops;
@@ -19,7 +19,7 @@ const REPLIES: &[u8] =
 const MOST_CALLS: u64 = 1_000;
 
 // The shipped operations and the two.
-fn ops_with(rt: &HostRuntime, flags: &Flags) -> Option<Ops> {
+fn ops_with(rt: &impl Host, flags: &Flags) -> Option<Ops> {
     if let Ok(mut ops) = Ops::shipped(rt.alloc())
         && let Ok(true) = are_taken(rt.alloc(), &mut ops, flags)
     {
@@ -30,7 +30,7 @@ fn ops_with(rt: &HostRuntime, flags: &Flags) -> Option<Ops> {
 }
 
 // What is left of a run over a copy of a store that makes so many calls, in which neither operation waits.
-fn written(rt: &HostRuntime, store: &MemDisk, calls: u64) -> Option<Left> {
+fn written(rt: &impl Host, store: &MemDisk, calls: u64) -> Option<Left> {
     let Ok(flags) = Flags::new(rt.alloc()) else {
         return None;
     };
@@ -40,7 +40,7 @@ fn written(rt: &HostRuntime, store: &MemDisk, calls: u64) -> Option<Left> {
 }
 
 // The disk of a run that makes as few calls as get all replies: it is stopped before its end, so that its changes are in the log alone.
-fn stopped(rt: &HostRuntime, store: &MemDisk) -> Option<MemDisk> {
+fn stopped(rt: &impl Host, store: &MemDisk) -> Option<MemDisk> {
     let mut last = written(rt, store, MOST_CALLS)?;
     for _ in 0..100u32 {
         let fewer = last.disk.call_count().saturating_sub(1);
@@ -54,7 +54,7 @@ fn stopped(rt: &HostRuntime, store: &MemDisk) -> Option<MemDisk> {
 }
 
 // How an opening of that store ends, and how often one of the operations saw the other's flag in it.
-fn met(rt: &HostRuntime) -> Option<(Status, u64)> {
+fn met(rt: &impl Host) -> Option<(Status, u64)> {
     let store = new_store(rt)?;
     let disk = stopped(rt, &store)?.crash(0);
     let Ok(flags) = Flags::new(rt.alloc()) else {

@@ -1,5 +1,6 @@
-// A script of transactions among one another over arrays, tables and blobs, and the objects after each of its commits.
-use crate::trial::run;
+// Two scripts, and the objects after each commit of theirs: one of transactions among one another over arrays, tables and blobs, and one that makes all
+// durable, sets a checkpoint and cuts the log.
+use crate::trial::{Host, Left, run, run_in_pieces};
 use sg_disk::MemDisk;
 use sg_making::Geometry;
 
@@ -11,9 +12,9 @@ pub const SIZES: Geometry = Geometry {
     windows: 4,
 };
 
-/// p makes an object of each kind. Then t, u and v go on at once: u commits, v aborts, and t commits, which began before u. q drops an object and
-/// makes another. w is left, and changes what is there; behind its changes r commits, so that they are durable.
-pub const SCRIPT: &[u8] =
+// p makes an object of each kind. Then t, u and v go on at once: u commits, v aborts, and t commits, which began before u. q drops an object and
+// makes another. w is left, and changes what is there; behind its changes r commits, so that they are durable.
+const SCRIPT: &[u8] =
     b"p begin\np make array a 2\np push a aa\np push a bb\np make table h\np put h k v\n\
     p make blob b\np write b 0 hello\np commit\n\
     t begin\nu begin\nv begin\nt set a 0 cc\nu apply a 1 1 x:0100\nv put h w x\nt put h k new\nu write b 3 XYZ\n\
@@ -43,8 +44,52 @@ const AFTER: [&[u8]; 6] = [
       ok 2\nok he\nerror out-of-range\nerror out-of-range\nok 40000\nok x:00000000\n",
 ];
 
-/// The number of commits whose objects a store over this disk shows, where it opens and shows those of some.
-pub fn commits_shown(rt: &HostRuntime, disk: MemDisk) -> Option<usize> {
-    let left = run(rt, disk, LOOK)?;
-    AFTER.iter().position(|replies| *replies == left.replies())
+// t makes an array and a blob. u, behind a flush, changes bytes on both sides of the end of a piece of the blob and adds 1 to the item. v is left.
+const CUT: &[u8] =
+    b"t begin\nt make array a 1\nt push a 1\nt make blob b\nt size b 600\nt commit\nflush\n\
+    u begin\nu write b 510 ABCD\nu apply a 0 1 x:01\nu commit\ncheckpoint\ntruncate\nv begin\nv push a 2";
+
+// What is written of its objects after the first so many commits.
+const WRITTEN: [&[u8]; 3] = [
+    b"objects 0\n",
+    b"array a 1 1\n 0 1\nblob b 600\nobjects 2\n",
+    b"array a 1 1\n 0 2\nblob b 600\n\
+      \x20480 x:0000000000000000000000000000000000000000000000000000000000004142\n\
+      \x20512 x:4344000000000000000000000000000000000000000000000000000000000000\nobjects 2\n",
+];
+
+/// A script over a new store of the least sizes, and how its objects are looked at.
+#[derive(Clone, Copy)]
+pub enum Course {
+    /// That of transactions among one another, by lines that read.
+    Objects,
+    /// That which cuts the log, by the text of all objects.
+    Cut,
+}
+
+impl Course {
+    /// Its lines.
+    pub fn script(self) -> &'static [u8] {
+        match self {
+            Course::Objects => SCRIPT,
+            Course::Cut => CUT,
+        }
+    }
+
+    // What a look at a store over this disk writes.
+    fn look(self, rt: &impl Host, disk: MemDisk) -> Option<Left> {
+        match self {
+            Course::Objects => run(rt, disk, LOOK),
+            Course::Cut => run_in_pieces(rt, "dump store", disk, b"", 8),
+        }
+    }
+
+    /// The number of commits whose objects a store over this disk shows, where it opens and shows those of some.
+    pub fn commits_shown(self, rt: &impl Host, disk: MemDisk) -> Option<usize> {
+        let left = self.look(rt, disk)?;
+        match self {
+            Course::Objects => AFTER.iter().position(|replies| *replies == left.replies()),
+            Course::Cut => WRITTEN.iter().position(|text| *text == left.replies()),
+        }
+    }
 }

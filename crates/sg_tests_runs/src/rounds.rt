@@ -1,7 +1,7 @@
-// The script of `objects`, stopped after each number of calls of the disk and followed by a crash; the store that is left opened, stopped in the midst of
+// The scripts of `objects`, stopped after each number of calls of the disk and followed by a crash; the store that is left opened, stopped in the midst of
 // that and followed by a crash again; and then opened whole.
-use crate::objects::{SCRIPT, SIZES, commits_shown};
-use crate::trial::{acknowledged, are_same, copy_of, new_store_of, run_stopped};
+use crate::objects::{Course, SIZES};
+use crate::trial::{Host, acknowledged, are_same, copy_of, new_store_of, run_stopped};
 use sg_disk::MemDisk;
 
 // What a crash makes of the bytes that no sync made durable: all of them are there; none is; those of every other call are; and of each call the
@@ -34,7 +34,7 @@ struct Seen {
 
 // A run of a script over a copy of the store that makes so many calls, and a crash.
 fn crash_run(
-    rt: &HostRuntime,
+    rt: &impl Host,
     store: &MemDisk,
     script: &[u8],
     calls: u64,
@@ -50,7 +50,13 @@ fn crash_run(
 
 // Whether a store that shows so many commits shows as many once its opening was stopped, after each number of calls. Where two stops leave
 // the same bytes, the second shows nothing new.
-fn openings_show(rt: &HostRuntime, store: &MemDisk, shown: usize, pick: u64) -> Option<bool> {
+fn openings_show(
+    rt: &impl Host,
+    course: Course,
+    store: &MemDisk,
+    shown: usize,
+    pick: u64,
+) -> Option<bool> {
     let mut before = copy_of(rt, store)?;
     for calls in 0..MOST_CALLS {
         let Crashed {
@@ -60,7 +66,7 @@ fn openings_show(rt: &HostRuntime, store: &MemDisk, shown: usize, pick: u64) -> 
         } = crash_run(rt, store, b"", calls, pick)?;
         if !are_same(&before, &disk) {
             before = copy_of(rt, &disk)?;
-            if commits_shown(rt, disk)? != shown {
+            if course.commits_shown(rt, disk)? != shown {
                 return Some(false);
             }
         }
@@ -72,9 +78,9 @@ fn openings_show(rt: &HostRuntime, store: &MemDisk, shown: usize, pick: u64) -> 
 }
 
 // The number of commits that a store shows over these bytes, where it shows as many however its opening is stopped.
-fn look(rt: &HostRuntime, disk: MemDisk, pick: u64) -> Option<Seen> {
-    let shown = commits_shown(rt, copy_of(rt, &disk)?)?;
-    if openings_show(rt, &disk, shown, pick)? {
+fn look(rt: &impl Host, course: Course, disk: MemDisk, pick: u64) -> Option<Seen> {
+    let shown = course.commits_shown(rt, copy_of(rt, &disk)?)?;
+    if openings_show(rt, course, &disk, shown, pick)? {
         Some(Seen { disk, shown })
     } else {
         None
@@ -86,23 +92,24 @@ fn is_next(least: usize, shown: usize) -> bool {
     least <= shown && shown - least <= 1
 }
 
-// A run of the script that makes so many calls: how many commits it acknowledged, and whether it was whole. None where what a crash leaves doesn't show
+// A run of a script that makes so many calls: how many commits it acknowledged, and whether it was whole. None where what a crash leaves doesn't show
 // these commits, or one more.
 fn round(
-    rt: &HostRuntime,
+    rt: &impl Host,
+    course: Course,
     store: &MemDisk,
     calls: u64,
     pick: u64,
     seen: &mut Seen,
 ) -> Option<(usize, bool)> {
-    let crashed = crash_run(rt, store, SCRIPT, calls, pick)?;
+    let crashed = crash_run(rt, store, course.script(), calls, pick)?;
     let Crashed {
         acknowledged,
         disk,
         calls: made,
     } = crashed;
     if !are_same(&seen.disk, &disk) {
-        *seen = look(rt, disk, pick)?;
+        *seen = look(rt, course, disk, pick)?;
     }
     if is_next(acknowledged, seen.shown) {
         Some((acknowledged, made < calls))
@@ -113,7 +120,7 @@ fn round(
 
 // How many commits the first whole run acknowledged, where it and each run that was stopped before go as they should; and else the number of calls at
 // which one goes otherwise.
-fn rounds(rt: &HostRuntime, pick: u64) -> Result<usize, u64> {
+fn rounds(rt: &impl Host, course: Course, pick: u64) -> Result<usize, u64> {
     let Some(store) = new_store_of(rt, &SIZES) else {
         return Err(MOST_CALLS);
     };
@@ -122,7 +129,7 @@ fn rounds(rt: &HostRuntime, pick: u64) -> Result<usize, u64> {
     };
     let mut seen = Seen { disk, shown: 0 };
     for calls in 0..MOST_CALLS {
-        match round(rt, &store, calls, pick, &mut seen) {
+        match round(rt, course, &store, calls, pick, &mut seen) {
             Some((acknowledged, true)) => return Ok(acknowledged),
             Some(_) => {}
             None => return Err(calls),
@@ -133,20 +140,41 @@ fn rounds(rt: &HostRuntime, pick: u64) -> Result<usize, u64> {
 
 #[test]
 fn stopped_where_all_bytes_are_there(rt: HostRuntime) {
-    assert_eq!(rt; rounds(&rt, ALL), Ok(5));
+    assert_eq!(rt; rounds(&rt, Course::Objects, ALL), Ok(5));
 }
 
 #[test]
 fn stopped_where_none_is(rt: HostRuntime) {
-    assert_eq!(rt; rounds(&rt, NONE), Ok(5));
+    assert_eq!(rt; rounds(&rt, Course::Objects, NONE), Ok(5));
 }
 
 #[test]
 fn stopped_where_those_of_every_other_call_are(rt: HostRuntime) {
-    assert_eq!(rt; rounds(&rt, EVERY_OTHER), Ok(5));
+    assert_eq!(rt; rounds(&rt, Course::Objects, EVERY_OTHER), Ok(5));
 }
 
 #[test]
 fn stopped_where_the_first_half_of_each_call_is(rt: HostRuntime) {
-    assert_eq!(rt; rounds(&rt, TORN), Ok(5));
+    assert_eq!(rt; rounds(&rt, Course::Objects, TORN), Ok(5));
+}
+
+// Behind these four all bytes of earlier calls are there. Those of the last call are, aren't, are others, and are by half.
+#[test]
+fn cut_and_stopped_where_all_bytes_are_there(rt: HostRuntime) {
+    assert_eq!(rt; rounds(&rt, Course::Cut, ALL), Ok(2));
+}
+
+#[test]
+fn cut_and_stopped_where_the_last_are_not(rt: HostRuntime) {
+    assert_eq!(rt; rounds(&rt, Course::Cut, 1), Ok(2));
+}
+
+#[test]
+fn cut_and_stopped_where_the_last_are_others(rt: HostRuntime) {
+    assert_eq!(rt; rounds(&rt, Course::Cut, 2), Ok(2));
+}
+
+#[test]
+fn cut_and_stopped_where_the_last_are_there_by_half(rt: HostRuntime) {
+    assert_eq!(rt; rounds(&rt, Course::Cut, 3), Ok(2));
 }

@@ -9,7 +9,13 @@ use sg_making::Geometry;
 use sg_mount::init_store;
 use sg_ops::Ops;
 use sg_top::{Finish, Status, stasis};
-use std::alloc::AllocError;
+use std::alloc::{AllocError, Global};
+use std::thread::Threads;
+
+/// The runtime that a test is given, with threads for openings, and memory.
+pub trait Host: Threads + Sync + Alloc<A = Global> {}
+
+impl<R: Threads + Sync + Alloc<A = Global>> Host for R {}
 
 // The sizes of a new store where none are given.
 const SIZES: Geometry = Geometry {
@@ -40,7 +46,7 @@ impl Left {
 }
 
 /// A disk that has a store of these sizes without objects.
-pub fn new_store_of(rt: &HostRuntime, sizes: &Geometry) -> Option<MemDisk> {
+pub fn new_store_of(rt: &impl Host, sizes: &Geometry) -> Option<MemDisk> {
     let mut disk = MemDisk::new(rt.alloc());
     match init_store(&mut disk, sizes) {
         Ok(()) => Some(disk),
@@ -49,12 +55,12 @@ pub fn new_store_of(rt: &HostRuntime, sizes: &Geometry) -> Option<MemDisk> {
 }
 
 /// A disk that has a store without objects, of 512 pages and 12 bands.
-pub fn new_store(rt: &HostRuntime) -> Option<MemDisk> {
+pub fn new_store(rt: &impl Host) -> Option<MemDisk> {
     new_store_of(rt, &SIZES)
 }
 
 /// A disk with the same contents, all of them stable.
-pub fn copy_of(rt: &HostRuntime, disk: &MemDisk) -> Option<MemDisk> {
+pub fn copy_of(rt: &impl Host, disk: &MemDisk) -> Option<MemDisk> {
     if let Ok(home) = disk.home().to_vec(rt.alloc())
         && let Ok(log0) = disk.log0().to_vec(rt.alloc())
         && let Ok(log1) = disk.log1().to_vec(rt.alloc())
@@ -70,7 +76,7 @@ pub fn are_same(one: &MemDisk, other: &MemDisk) -> bool {
     one.home() == other.home() && one.log0() == other.log0() && one.log1() == other.log1()
 }
 
-fn words_of(rt: &HostRuntime, text: &str) -> Result<Vec<String>, AllocError> {
+fn words_of(rt: &impl Host, text: &str) -> Result<Vec<String>, AllocError> {
     let mut words = Vec::new(rt.alloc());
     for word in text.split(' ') {
         words.push(word.to_string(rt.alloc())?)?;
@@ -80,7 +86,7 @@ fn words_of(rt: &HostRuntime, text: &str) -> Result<Vec<String>, AllocError> {
 
 // Does what the words say, with these operations.
 fn run_words<S: Source>(
-    rt: &HostRuntime,
+    rt: &impl Host,
     ops: Ops,
     words: &[String],
     disk: MemDisk,
@@ -94,7 +100,7 @@ fn run_words<S: Source>(
 
 /// Runs a script with these operations, over a disk that makes so many calls.
 pub fn run_with(
-    rt: &HostRuntime,
+    rt: &impl Host,
     ops: Ops,
     disk: MemDisk,
     script: &[u8],
@@ -113,7 +119,7 @@ pub fn run_with(
 
 /// Does what the words say, with the shipped operations. The sink's n-th call fails where n is given.
 pub fn run_from<S: Source>(
-    rt: &HostRuntime,
+    rt: &impl Host,
     words: &str,
     disk: MemDisk,
     script: &mut S,
@@ -130,7 +136,7 @@ pub fn run_from<S: Source>(
 
 /// The same with a script that comes in pieces of so many bytes.
 pub fn run_in_pieces(
-    rt: &HostRuntime,
+    rt: &impl Host,
     words: &str,
     disk: MemDisk,
     script: &[u8],
@@ -148,12 +154,12 @@ pub fn run_in_pieces(
 }
 
 /// Runs a script.
-pub fn run(rt: &HostRuntime, disk: MemDisk, script: &[u8]) -> Option<Left> {
+pub fn run(rt: &impl Host, disk: MemDisk, script: &[u8]) -> Option<Left> {
     run_in_pieces(rt, "run store", disk, script, 65_536)
 }
 
 /// Runs a script over a disk that makes so many calls.
-pub fn run_stopped(rt: &HostRuntime, disk: MemDisk, script: &[u8], calls: u64) -> Option<Left> {
+pub fn run_stopped(rt: &impl Host, disk: MemDisk, script: &[u8], calls: u64) -> Option<Left> {
     match format!(in rt.alloc(); "run store --stop-after {calls}") {
         Ok(words) => run_in_pieces(rt, words.as_str(), disk, script, 65_536),
         Err(_) => None,
@@ -161,16 +167,59 @@ pub fn run_stopped(rt: &HostRuntime, disk: MemDisk, script: &[u8], calls: u64) -
 }
 
 /// Runs a script, and hands back the disk where the run is done with these replies.
-pub fn done(rt: &HostRuntime, disk: MemDisk, script: &[u8], replies: &[u8]) -> Option<MemDisk> {
+pub fn done(rt: &impl Host, disk: MemDisk, script: &[u8], replies: &[u8]) -> Option<MemDisk> {
     match run(rt, disk, script) {
         Some(left) if left.is(Status::Done, replies) => Some(left.disk),
         _ => None,
     }
 }
 
+/// The least number of calls of the disk with which a run over a copy of this store gives these replies: those of its opening and of its lines, without
+/// the end of the run.
+pub fn calls_of_lines(
+    rt: &impl Host,
+    store: &MemDisk,
+    script: &[u8],
+    replies: &[u8],
+) -> Option<u64> {
+    let left = run(rt, copy_of(rt, store)?, script)?;
+    let mut enough = left.disk.call_count();
+    let mut too_few = 0u64;
+    for _ in 0..64u32 {
+        let middle = too_few.saturating_add(enough) / 2;
+        if middle == too_few {
+            return Some(enough);
+        }
+        let left = run_stopped(rt, copy_of(rt, store)?, script, middle)?;
+        if left.replies() == replies {
+            enough = middle;
+        } else {
+            too_few = middle;
+        }
+    }
+    None
+}
+
+/// Whether a look at the objects of a store, by the word `dump` or `check`, writes this.
+pub fn looks_so(rt: &impl Host, disk: MemDisk, word: &str, text: &[u8]) -> bool {
+    match format!(in rt.alloc(); "{word} store") {
+        Ok(words) => match run_in_pieces(rt, words.as_str(), disk, b"", 8) {
+            Some(left) => left.is(Status::Done, text),
+            None => false,
+        },
+        Err(_) => false,
+    }
+}
+
+/// What is left of a copy of a store whose opening is stopped after so many calls of the disk, and that a crash follows.
+pub fn opening_stopped(rt: &impl Host, store: &MemDisk, calls: u64, pick: u64) -> Option<MemDisk> {
+    let left = run_stopped(rt, copy_of(rt, store)?, b"", calls)?;
+    Some(left.disk.crash(pick))
+}
+
 /// Whether a script over this disk ends so, with these replies.
 pub fn run_goes(
-    rt: &HostRuntime,
+    rt: &impl Host,
     disk: MemDisk,
     script: &[u8],
     status: Status,

@@ -1,6 +1,6 @@
 // A script whose pages and bands exceed the frames and windows many times, with aborts. A verb there changes more than memory has room for, so that a
 // stop finds its records in the log, and its bytes in pages and bands, before it is done; and an abort as long as that is stopped in its middle too.
-use crate::trial::{acknowledged, copy_of, new_store_of, run, run_stopped};
+use crate::trial::{Host, acknowledged, copy_of, new_store_of, run, run_stopped};
 use sg_disk::MemDisk;
 use sg_making::Geometry;
 use std::alloc::AllocError;
@@ -20,7 +20,7 @@ const ENTRIES: u32 = 120;
 const LETTERS: u32 = 1000;
 
 // The value with this letter.
-fn value_of(rt: &HostRuntime, letter: char) -> Result<String, AllocError> {
+fn value_of(rt: &impl Host, letter: char) -> Result<String, AllocError> {
     let mut value = String::new(rt.alloc());
     for _ in 0..LETTERS {
         value.push(letter)?;
@@ -29,7 +29,7 @@ fn value_of(rt: &HostRuntime, letter: char) -> Result<String, AllocError> {
 }
 
 // The lines by which a transaction gives each key the value with the letter of its name.
-fn push_puts(rt: &HostRuntime, script: &mut String, name: char) -> Result<(), AllocError> {
+fn push_puts(rt: &impl Host, script: &mut String, name: char) -> Result<(), AllocError> {
     let value = value_of(rt, name)?;
     for key in 0..ENTRIES {
         script.push_str(&format!(in rt.alloc(); "{name} put h k{key} {value}\n")?)?;
@@ -39,7 +39,7 @@ fn push_puts(rt: &HostRuntime, script: &mut String, name: char) -> Result<(), Al
 
 // Four commits. p makes the objects. While u gives the keys new values and commits, t has painted the whole blob, and aborts. While w paints a part of the
 // blob and commits, v has given the keys new values, and aborts. x has changed all when z commits, and is left.
-fn script(rt: &HostRuntime) -> Result<String, AllocError> {
+fn script(rt: &impl Host) -> Result<String, AllocError> {
     let mut script = String::new(rt.alloc());
     script.push_str("p begin\np make table h\np make blob b\np size b 400000\n")?;
     push_puts(rt, &mut script, 'p')?;
@@ -66,7 +66,7 @@ const READS: [(u32, &str, &str); 6] = [
 ];
 
 // The lines that look at the objects. Of the entries each eleventh is read.
-fn look(rt: &HostRuntime) -> Result<String, AllocError> {
+fn look(rt: &impl Host) -> Result<String, AllocError> {
     let mut lines = String::new(rt.alloc());
     lines.push_str("s begin\ns list\ns len b\n")?;
     for (at, _, _) in &READS {
@@ -81,7 +81,7 @@ fn look(rt: &HostRuntime) -> Result<String, AllocError> {
 }
 
 // What they are answered where the objects are those after the first so many commits.
-fn answers_after(rt: &HostRuntime, commits: usize) -> Result<String, AllocError> {
+fn answers_after(rt: &impl Host, commits: usize) -> Result<String, AllocError> {
     let mut replies = String::new(rt.alloc());
     replies.push_str(match commits {
         0 => "ok\nok 0\nerror no-object\n",
@@ -94,7 +94,7 @@ fn answers_after(rt: &HostRuntime, commits: usize) -> Result<String, AllocError>
 }
 
 // The same of the places in the blob.
-fn push_reads(rt: &HostRuntime, replies: &mut String, commits: usize) -> Result<(), AllocError> {
+fn push_reads(rt: &impl Host, replies: &mut String, commits: usize) -> Result<(), AllocError> {
     for (_, before, behind) in &READS {
         let reply = match commits {
             0 => format!(in rt.alloc(); "error no-object\n")?,
@@ -107,7 +107,7 @@ fn push_reads(rt: &HostRuntime, replies: &mut String, commits: usize) -> Result<
 }
 
 // And of the entries.
-fn push_values(rt: &HostRuntime, replies: &mut String, commits: usize) -> Result<(), AllocError> {
+fn push_values(rt: &impl Host, replies: &mut String, commits: usize) -> Result<(), AllocError> {
     let value = value_of(rt, if commits < 2 { 'p' } else { 'u' })?;
     for key in 0..ENTRIES {
         if key % 11 == 0 {
@@ -131,7 +131,7 @@ struct Texts {
 }
 
 impl Texts {
-    fn new(rt: &HostRuntime) -> Result<Texts, AllocError> {
+    fn new(rt: &impl Host) -> Result<Texts, AllocError> {
         Ok(Texts {
             script: script(rt)?,
             look: look(rt)?,
@@ -147,7 +147,7 @@ impl Texts {
 }
 
 // The number of commits whose objects a store over this disk shows, where it opens and shows those of some.
-fn commits_shown(rt: &HostRuntime, texts: &Texts, disk: MemDisk) -> Option<usize> {
+fn commits_shown(rt: &impl Host, texts: &Texts, disk: MemDisk) -> Option<usize> {
     let left = run(rt, disk, texts.look.as_bytes())?;
     texts
         .after
@@ -156,14 +156,14 @@ fn commits_shown(rt: &HostRuntime, texts: &Texts, disk: MemDisk) -> Option<usize
 }
 
 // How many calls a run of this script over a copy of the store makes.
-fn calls_of(rt: &HostRuntime, store: &MemDisk, script: &[u8]) -> Option<u64> {
+fn calls_of(rt: &impl Host, store: &MemDisk, script: &[u8]) -> Option<u64> {
     let left = run(rt, copy_of(rt, store)?, script)?;
     Some(left.disk.call_count())
 }
 
 // Whether a store that shows so many commits shows as many once its opening was stopped at a third and at two thirds of its calls, and short of its last.
 fn openings_show(
-    rt: &HostRuntime,
+    rt: &impl Host,
     texts: &Texts,
     store: &MemDisk,
     shown: usize,
@@ -181,7 +181,7 @@ fn openings_show(
 
 // Whether a run that makes so many calls leaves, behind a crash, a store that shows the acknowledged commits, or one more, however its opening is stopped.
 fn stop_goes(
-    rt: &HostRuntime,
+    rt: &impl Host,
     texts: &Texts,
     store: &MemDisk,
     calls: u64,
@@ -197,7 +197,7 @@ fn stop_goes(
 
 // How many stops go as they should, of so many that part a whole run evenly, each with one of four crashes by turns; and else the number of calls of the
 // first that goes otherwise.
-fn stops(rt: &HostRuntime, texts: &Texts, count: u64) -> Result<u64, u64> {
+fn stops(rt: &impl Host, texts: &Texts, count: u64) -> Result<u64, u64> {
     let Some(store) = new_store_of(rt, &SIZES) else {
         return Err(0);
     };
@@ -222,7 +222,7 @@ fn stopped_wider_than_memory(rt: HostRuntime) -> Result<(), Fail> {
 }
 
 // How many commits a whole run acknowledges, and how many are shown behind it.
-fn whole(rt: &HostRuntime, texts: &Texts) -> Option<(usize, usize)> {
+fn whole(rt: &impl Host, texts: &Texts) -> Option<(usize, usize)> {
     let store = new_store_of(rt, &SIZES)?;
     let left = run(rt, store, texts.script.as_bytes())?;
     let least = acknowledged(texts.script.as_bytes(), left.replies());

@@ -1,4 +1,4 @@
-use crate::trial::{copy_of, done, new_store, run, run_goes, run_in_pieces};
+use crate::trial::{Host, copy_of, done, new_store, run, run_goes, run_in_pieces};
 use sg_base::Area;
 use sg_disk::{CallKind, MemDisk};
 use sg_top::Status;
@@ -6,7 +6,7 @@ use sg_top::Status;
 const LOOK: &[u8] = b"u begin\nu get a 0\nu get a 1";
 
 // Whether a second run reads what the first committed, and nothing else.
-fn second_run_goes(rt: &HostRuntime) -> Option<bool> {
+fn second_run_goes(rt: &impl Host) -> Option<bool> {
     let script =
         b"t begin\nt make array a 3\nt push a abc\nt set a 0 xyz\nt commit\nt begin\nt set a 0 old";
     let disk = done(
@@ -25,7 +25,7 @@ fn a_second_run_reads_what_the_first_left(rt: HostRuntime) {
 }
 
 // How a store is made of the sizes that one has where none are given, made again, and run over.
-fn made_by_words(rt: &HostRuntime) -> Option<[Status; 3]> {
+fn made_by_words(rt: &impl Host) -> Option<[Status; 3]> {
     let first = run_in_pieces(rt, "init store", MemDisk::new(rt.alloc()), b"t begin", 8)?;
     let said = first.replies() == b"ok\n".as_slice();
     let made = if said { first.status } else { Status::Usage };
@@ -42,7 +42,7 @@ fn a_store_is_made_once(rt: HostRuntime) {
 }
 
 // How a run over a disk of zeros ends.
-fn end_of_none(rt: &HostRuntime) -> Option<Status> {
+fn end_of_none(rt: &impl Host) -> Option<Status> {
     let left = run(rt, MemDisk::new(rt.alloc()), LOOK)?;
     Some(left.status)
 }
@@ -60,7 +60,7 @@ fn spoil(bytes: &mut [u8], at: usize, byte: u8) {
 }
 
 // How a run ends over a new store with another byte at this place of its home area.
-fn end_of_spoiled(rt: &HostRuntime, at: usize, byte: u8) -> Option<Status> {
+fn end_of_spoiled(rt: &impl Host, at: usize, byte: u8) -> Option<Status> {
     let store = new_store(rt)?;
     if let Ok(home) = store.home().to_vec(rt.alloc())
         && let Ok(log) = store.log0().to_vec(rt.alloc())
@@ -85,7 +85,7 @@ fn a_wrong_superblock_is_answered_with_its_place(rt: HostRuntime) {
 }
 
 // A run that pushes an item of this number.
-fn pushed(rt: &HostRuntime, disk: MemDisk, number: u8) -> Option<MemDisk> {
+fn pushed(rt: &impl Host, disk: MemDisk, number: u8) -> Option<MemDisk> {
     if let Ok(script) = format!(in rt.alloc(); "t begin\nt push a {number}\nt commit")
         && let Ok(replies) = format!(in rt.alloc(); "ok\nok {number}\nok\n")
     {
@@ -96,7 +96,7 @@ fn pushed(rt: &HostRuntime, disk: MemDisk, number: u8) -> Option<MemDisk> {
 }
 
 // Ten runs behind the one that makes the array.
-fn pushed_ten_times(rt: &HostRuntime) -> Option<MemDisk> {
+fn pushed_ten_times(rt: &impl Host) -> Option<MemDisk> {
     let script = b"t begin\nt make array a 1\nt commit";
     let mut disk = done(rt, new_store(rt)?, script, b"ok\nok\nok\n")?;
     for number in 0..10u8 {
@@ -106,7 +106,7 @@ fn pushed_ten_times(rt: &HostRuntime) -> Option<MemDisk> {
 }
 
 // Whether a last run reads what they pushed.
-fn ten_go(rt: &HostRuntime) -> bool {
+fn ten_go(rt: &impl Host) -> bool {
     let script = b"t begin\nt get a 0\nt get a 9\nt get a 10";
     match pushed_ten_times(rt) {
         Some(disk) => run_goes(
@@ -126,7 +126,7 @@ fn a_store_is_opened_ten_times(rt: HostRuntime) {
 }
 
 // The disk of a run over a new store whose third write, the second commit's first one, fails.
-fn failed_commit(rt: &HostRuntime) -> Option<MemDisk> {
+fn failed_commit(rt: &impl Host) -> Option<MemDisk> {
     let script = b"t begin\nt make array a 1\nt commit\nu begin\nu push a x\nu commit\nv begin";
     let store = new_store(rt)?;
     let mut disk = copy_of(rt, &store)?;
@@ -142,7 +142,7 @@ fn failed_commit(rt: &HostRuntime) -> Option<MemDisk> {
 }
 
 // Whether what that run failed to commit isn't there after a crash.
-fn failed_commit_goes(rt: &HostRuntime, pick: u64) -> bool {
+fn failed_commit_goes(rt: &impl Host, pick: u64) -> bool {
     match failed_commit(rt) {
         Some(disk) => run_goes(
             rt,

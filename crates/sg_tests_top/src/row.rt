@@ -1,4 +1,4 @@
-use crate::trial::answers;
+use crate::trial::{Host, answers};
 use std::alloc::AllocError;
 use std::test::Fail;
 
@@ -77,7 +77,7 @@ const ROWS: [(&str, &str); 13] = [
 ];
 
 // The number of the first row whose lines are answered otherwise.
-fn first_wrong(rt: &HostRuntime) -> Option<usize> {
+fn first_wrong(rt: &impl Host) -> Option<usize> {
     for (number, (lines, replies)) in ROWS.iter().enumerate() {
         if !answers(rt, lines, replies) {
             return Some(number);
@@ -92,7 +92,7 @@ fn lines_of_transactions_among_one_another(rt: HostRuntime) {
 }
 
 // A value as long as the longest.
-fn long_value(rt: &HostRuntime) -> Result<String, AllocError> {
+fn long_value(rt: &impl Host) -> Result<String, AllocError> {
     let mut value = String::new(rt.alloc());
     for _ in 0..1024u32 {
         value.push('v')?;
@@ -101,7 +101,7 @@ fn long_value(rt: &HostRuntime) -> Result<String, AllocError> {
 }
 
 // Whether a table's second long entry is taken back.
-fn long_entry_goes(rt: &HostRuntime) -> Result<bool, AllocError> {
+fn long_entry_goes(rt: &impl Host) -> Result<bool, AllocError> {
     let value = long_value(rt)?;
     let lines = format!(in rt.alloc();
         "t begin\nt make table h\nt put h k1 {value}\nt commit\nu begin\nu put h k2 {value}\nu abort\nw begin\nw find h k2\nw find h k1"
@@ -119,7 +119,7 @@ fn a_long_entry_is_taken_back(rt: HostRuntime) -> Result<(), Fail> {
 }
 
 // Pushes the lines of 64 transactions that begin and make an object each.
-fn push_begins(rt: &HostRuntime, lines: &mut String) -> Result<(), AllocError> {
+fn push_begins(rt: &impl Host, lines: &mut String) -> Result<(), AllocError> {
     for n in 10..74u32 {
         lines.push_str(&format!(in rt.alloc(); "t{n} begin\nt{n} make array a{n} 1\n")?)?;
     }
@@ -127,7 +127,7 @@ fn push_begins(rt: &HostRuntime, lines: &mut String) -> Result<(), AllocError> {
 }
 
 // Pushes the lines of an abort of each second one and of a commit of the others.
-fn push_ends(rt: &HostRuntime, lines: &mut String) -> Result<(), AllocError> {
+fn push_ends(rt: &impl Host, lines: &mut String) -> Result<(), AllocError> {
     for n in 10..74u32 {
         let end = if n % 2 == 0 { "abort" } else { "commit" };
         lines.push_str(&format!(in rt.alloc(); "t{n} {end}\n")?)?;
@@ -137,7 +137,7 @@ fn push_ends(rt: &HostRuntime, lines: &mut String) -> Result<(), AllocError> {
 
 // The lines of 64 transactions that begin, of one more that can't, of the ends of the 64, and of one that looks at what is
 // left.
-fn lines_of_all(rt: &HostRuntime) -> Result<String, AllocError> {
+fn lines_of_all(rt: &impl Host) -> Result<String, AllocError> {
     let mut lines = String::new(rt.alloc());
     push_begins(rt, &mut lines)?;
     lines.push_str("u begin\n")?;
@@ -155,7 +155,7 @@ fn push_times(replies: &mut String, count: u32, reply: &str) -> Result<(), Alloc
 }
 
 // Pushes the names of the objects of those that committed, each behind a space.
-fn push_names(rt: &HostRuntime, replies: &mut String) -> Result<(), AllocError> {
+fn push_names(rt: &impl Host, replies: &mut String) -> Result<(), AllocError> {
     for n in 10..74u32 {
         if n % 2 == 1 {
             replies.push_str(&format!(in rt.alloc(); " a{n}")?)?;
@@ -165,7 +165,7 @@ fn push_names(rt: &HostRuntime, replies: &mut String) -> Result<(), AllocError> 
 }
 
 // What they are answered.
-fn replies_to_all(rt: &HostRuntime) -> Result<String, AllocError> {
+fn replies_to_all(rt: &impl Host) -> Result<String, AllocError> {
     let mut replies = String::new(rt.alloc());
     push_times(&mut replies, 128, "ok\n")?;
     replies.push_str("error too-many-live\n")?;
@@ -185,7 +185,7 @@ fn as_many_are_live_as_may_be(rt: HostRuntime) -> Result<(), Fail> {
 }
 
 // A transaction that pushes an item more than it can hold.
-fn lines_of_many_locks(rt: &HostRuntime) -> Result<String, AllocError> {
+fn lines_of_many_locks(rt: &impl Host) -> Result<String, AllocError> {
     let mut lines = String::new(rt.alloc());
     lines.push_str("t begin\nt make array a 1\n")?;
     push_times(&mut lines, 4093, "t push a x\n")?;
@@ -194,7 +194,7 @@ fn lines_of_many_locks(rt: &HostRuntime) -> Result<String, AllocError> {
 }
 
 // What it is answered.
-fn replies_to_many_locks(rt: &HostRuntime) -> Result<String, AllocError> {
+fn replies_to_many_locks(rt: &impl Host) -> Result<String, AllocError> {
     let mut replies = String::new(rt.alloc());
     replies.push_str("ok\nok\n")?;
     for n in 0..4093u32 {

@@ -1,11 +1,11 @@
-use crate::trial::{copy_of, new_store, run, run_in_pieces, run_stopped};
+use crate::trial::{Host, copy_of, new_store, run, run_in_pieces, run_stopped};
 use sg_disk::MemDisk;
 use sg_top::Status;
 
 const SCRIPT: &[u8] = b"t begin\nt make array a 3\nt push a abc\nt commit";
 
 // How many calls of the disk a run of a script over this store makes.
-fn calls_of(rt: &HostRuntime, store: &MemDisk, script: &[u8]) -> Option<u64> {
+fn calls_of(rt: &impl Host, store: &MemDisk, script: &[u8]) -> Option<u64> {
     let left = run(rt, copy_of(rt, store)?, script)?;
     Some(left.disk.call_count())
 }
@@ -29,7 +29,7 @@ const NO_RUNS: &str = "run d --stop-after 18446744073709551616,\
     --stop-after 6 run d";
 
 // Whether the script goes so with these words over a new store: how it ends, and whether there is a reply. No call is refused.
-fn words_go(rt: &HostRuntime, words: &str, status: Status, are_replies: bool) -> bool {
+fn words_go(rt: &impl Host, words: &str, status: Status, are_replies: bool) -> bool {
     match new_store(rt).and_then(|disk| run_in_pieces(rt, words, disk, SCRIPT, 65_536)) {
         Some(left) => {
             left.status == status && left.refused == 0 && left.replies().is_empty() != are_replies
@@ -39,7 +39,7 @@ fn words_go(rt: &HostRuntime, words: &str, status: Status, are_replies: bool) ->
 }
 
 // How many rows of words these are, where all go so.
-fn all_go(rt: &HostRuntime, rows: &str, status: Status, are_replies: bool) -> Option<usize> {
+fn all_go(rt: &impl Host, rows: &str, status: Status, are_replies: bool) -> Option<usize> {
     let mut count = 0usize;
     for words in rows.split(',') {
         if !words_go(rt, words, status, are_replies) {
@@ -84,14 +84,14 @@ fn acknowledged(replies: &[u8]) -> usize {
 }
 
 // The number of commits whose objects a store over this disk shows.
-fn commits_shown(rt: &HostRuntime, disk: MemDisk) -> Option<usize> {
+fn commits_shown(rt: &impl Host, disk: MemDisk) -> Option<usize> {
     let left = run(rt, disk, ITEMS)?;
     AFTER.iter().position(|replies| *replies == left.replies())
 }
 
 // A run of the three over a copy of the store that is stopped: how many commits were acknowledged, and what a crash leaves.
 fn three_stopped(
-    rt: &HostRuntime,
+    rt: &impl Host,
     store: &MemDisk,
     calls: u64,
     pick: u64,
@@ -102,7 +102,7 @@ fn three_stopped(
 
 // The number of commits that a store shows over a copy of what is left where its opening was stopped after so many calls
 // before, and crashed.
-fn look_stopped(rt: &HostRuntime, disk: &MemDisk, calls: u64, pick: u64) -> Option<usize> {
+fn look_stopped(rt: &impl Host, disk: &MemDisk, calls: u64, pick: u64) -> Option<usize> {
     let left = run_stopped(rt, copy_of(rt, disk)?, ITEMS, calls)?;
     commits_shown(rt, left.disk.crash(pick))
 }
@@ -114,7 +114,7 @@ fn is_next(least: usize, shown: usize) -> bool {
 
 // Whether a store shows the objects after some first commits, so many as were acknowledged or one more, however its opening was
 // stopped before.
-fn looks_go(rt: &HostRuntime, disk: &MemDisk, least: usize, pick: u64) -> bool {
+fn looks_go(rt: &impl Host, disk: &MemDisk, least: usize, pick: u64) -> bool {
     for calls in 0..6u64 {
         match look_stopped(rt, disk, calls.saturating_mul(9), pick) {
             Some(shown) if is_next(least, shown) => {}
@@ -125,7 +125,7 @@ fn looks_go(rt: &HostRuntime, disk: &MemDisk, least: usize, pick: u64) -> bool {
 }
 
 // Whether a run goes as it should that is stopped after so many calls, then opened and stopped again, and then opened whole.
-fn three_go(rt: &HostRuntime, store: &MemDisk, calls: u64, pick: u64) -> bool {
+fn three_go(rt: &impl Host, store: &MemDisk, calls: u64, pick: u64) -> bool {
     match three_stopped(rt, store, calls, pick) {
         Some((least, disk)) => looks_go(rt, &disk, least, pick.saturating_add(1)),
         None => false,
@@ -133,7 +133,7 @@ fn three_go(rt: &HostRuntime, store: &MemDisk, calls: u64, pick: u64) -> bool {
 }
 
 // The first number of calls that goes otherwise, of each third one up to the number that a whole run makes.
-fn first_wrong_of_three(rt: &HostRuntime) -> Option<u64> {
+fn first_wrong_of_three(rt: &impl Host) -> Option<u64> {
     let store = new_store(rt)?;
     let calls = calls_of(rt, &store, THREE)?;
     for n in 0..calls.min(400) {
@@ -152,7 +152,7 @@ fn stopped_and_opened_twice(rt: HostRuntime) {
 }
 
 // Whether a whole run acknowledges all three, and is shown.
-fn whole_goes(rt: &HostRuntime) -> Option<bool> {
+fn whole_goes(rt: &impl Host) -> Option<bool> {
     let store = new_store(rt)?;
     let (least, disk) = three_stopped(rt, &store, u64::MAX, 0)?;
     let shown = commits_shown(rt, disk)?;

@@ -1,6 +1,6 @@
 ghost use Rattle.std.specs.Prelude.{None, ◌<◌};
 
-use crate::trial::{Left, answered, copy_of, goes, new_store, run, run_from, run_in_pieces};
+use crate::trial::{Host, Left, answered, copy_of, goes, new_store, run, run_from, run_in_pieces};
 use sg_base::{Failed, MemSource, Source};
 use sg_disk::{CallKind, MemDisk};
 use sg_top::Status;
@@ -11,7 +11,7 @@ const FIRST: &str = "t begin\nt make array a 3\nt push a abc\nt set a 0 xyz\nt g
 const FIRST_REPLIES: &str = "ok\nok\nok 0\nok\nok xyz\nok\n";
 
 // Whether the first script gets its replies where it comes in pieces of so many bytes.
-fn pieces_go(rt: &HostRuntime, piece: usize) -> bool {
+fn pieces_go(rt: &impl Host, piece: usize) -> bool {
     if piece == 0 {
         return false;
     }
@@ -76,7 +76,7 @@ const HOSTILE: [(&str, &str); 16] = [
 ];
 
 // The number of the first script that is answered otherwise.
-fn first_wrong(rt: &HostRuntime) -> Option<usize> {
+fn first_wrong(rt: &impl Host) -> Option<usize> {
     for (number, (script, replies)) in HOSTILE.iter().enumerate() {
         if !goes(rt, script.as_bytes(), Status::Done, replies.as_bytes()) {
             return Some(number);
@@ -91,14 +91,14 @@ fn hostile_lines(rt: HostRuntime) {
 }
 
 // So many spaces, and these bytes behind them.
-fn spaces(rt: &HostRuntime, count: usize, behind: &[u8]) -> Result<Vec<u8>, AllocError> {
+fn spaces(rt: &impl Host, count: usize, behind: &[u8]) -> Result<Vec<u8>, AllocError> {
     let mut script = vec![in rt.alloc(); b' '; count]?;
     script.extend_from_slice(behind)?;
     Ok(script)
 }
 
 // Whether such a script is answered so.
-fn spaces_go(rt: &HostRuntime, count: usize, behind: &[u8], replies: &[u8]) -> bool {
+fn spaces_go(rt: &impl Host, count: usize, behind: &[u8], replies: &[u8]) -> bool {
     match spaces(rt, count, behind) {
         Ok(script) => goes(rt, &script, Status::Done, replies),
         Err(_) => false,
@@ -113,7 +113,7 @@ fn the_longest_line(rt: HostRuntime) {
 }
 
 // Whether the words are no command, and nothing is asked of the disk.
-fn are_no_command(rt: &HostRuntime, words: &str) -> bool {
+fn are_no_command(rt: &impl Host, words: &str) -> bool {
     match run_in_pieces(rt, words, MemDisk::new(rt.alloc()), b"t begin", 8) {
         Some(left) => left.status == Status::Usage && left.disk.call_count() == 0,
         None => false,
@@ -133,7 +133,7 @@ fn other_words_are_no_command(rt: HostRuntime) {
 const DRAWN: &[u8] = b"\ns commit\nt2 begin\nt2 paint b 19462 1436 2 x:4d\nt2 commit\n";
 
 // Whether a workload is written, and nothing is asked of the disk: six lines and 64 pushes come first.
-fn workload_goes(rt: &HostRuntime) -> bool {
+fn workload_goes(rt: &impl Host) -> bool {
     match run_in_pieces(rt, "gen 0 2", MemDisk::new(rt.alloc()), b"t begin", 8) {
         Some(left) => {
             left.status == Status::Done
@@ -153,7 +153,7 @@ fn a_workload_is_written(rt: HostRuntime) {
 
 // What a run over a new store leaves whose source comes in pieces of so many bytes, where a call of the source or of the sink fails.
 fn run_failing(
-    rt: &HostRuntime,
+    rt: &impl Host,
     script: &[u8],
     piece: usize,
     source_fails: Option<u64>,
@@ -172,7 +172,7 @@ fn run_failing(
 }
 
 // Whether a run ends so whose source fails at the third call.
-fn failing_source_goes(rt: &HostRuntime) -> bool {
+fn failing_source_goes(rt: &impl Host) -> bool {
     match run_failing(rt, b"t begin\nt commit", 8, Some(3), None) {
         Some(left) => left.is(Status::Read, b"ok\n"),
         None => false,
@@ -185,7 +185,7 @@ fn a_source_that_fails(rt: HostRuntime) {
 }
 
 // Whether a run ends so whose sink fails at the second call.
-fn failing_sink_goes(rt: &HostRuntime) -> bool {
+fn failing_sink_goes(rt: &impl Host) -> bool {
     let script = b"t begin\nt commit\nu begin\nu commit";
     match run_failing(rt, script, 64, None, Some(2)) {
         Some(left) => left.is(Status::Write, b"ok\n"),
@@ -199,7 +199,7 @@ fn a_sink_that_fails(rt: HostRuntime) {
 }
 
 // Whether a run over a new store ends with one fault of the disk and these replies where the nth call of that kind fails.
-fn failing_disk_goes(rt: &HostRuntime, kind: CallKind, nth: u64, replies: &[u8]) -> bool {
+fn failing_disk_goes(rt: &impl Host, kind: CallKind, nth: u64, replies: &[u8]) -> bool {
     match new_store(rt).and_then(|disk| copy_of(rt, &disk)) {
         Some(disk) => {
             let mut disk = disk;
@@ -244,7 +244,7 @@ impl Source for LongLines {
 }
 
 // How a script of so many bytes ends.
-fn end_of_long(rt: &HostRuntime, size: u64) -> Option<Status> {
+fn end_of_long(rt: &impl Host, size: u64) -> Option<Status> {
     let mut source = LongLines { left: size };
     let disk = new_store(rt)?;
     let left = run_from(rt, "run store", disk, &mut source, None)?;
@@ -258,7 +258,7 @@ fn a_script_has_a_greatest_length(rt: HostRuntime) {
 }
 
 // Whether a session that answers the first script ends so, with these replies.
-fn session_goes(rt: &HostRuntime, sink_fails: Option<u64>, status: Status, replies: &[u8]) -> bool {
+fn session_goes(rt: &impl Host, sink_fails: Option<u64>, status: Status, replies: &[u8]) -> bool {
     match answered(rt, FIRST, sink_fails) {
         Some(left) => left.is(status, replies),
         None => false,

@@ -12,7 +12,13 @@ use sg_making::Geometry;
 use sg_mount::init_store;
 use sg_ops::Ops;
 use sg_top::{Finish, Session, Status, stasis};
-use std::alloc::AllocError;
+use std::alloc::{AllocError, Global};
+use std::thread::Threads;
+
+/// The runtime that a test is given, with threads for openings, and memory.
+pub trait Host: Threads + Sync + Alloc<A = Global> {}
+
+impl<R: Threads + Sync + Alloc<A = Global>> Host for R {}
 
 // A disk that tells nothing, so that a session over it asks for nothing.
 type Silent = Quiet<MemDisk>;
@@ -49,7 +55,7 @@ impl Left {
 }
 
 /// A disk that has a store without objects.
-pub fn new_store(rt: &HostRuntime) -> Option<MemDisk> {
+pub fn new_store(rt: &impl Host) -> Option<MemDisk> {
     let mut disk = MemDisk::new(rt.alloc());
     match init_store(&mut disk, &SIZES) {
         Ok(()) => Some(disk),
@@ -58,7 +64,7 @@ pub fn new_store(rt: &HostRuntime) -> Option<MemDisk> {
 }
 
 /// A disk with the same contents, all of them stable.
-pub fn copy_of(rt: &HostRuntime, disk: &MemDisk) -> Option<MemDisk> {
+pub fn copy_of(rt: &impl Host, disk: &MemDisk) -> Option<MemDisk> {
     if let Ok(home) = disk.home().to_vec(rt.alloc())
         && let Ok(log0) = disk.log0().to_vec(rt.alloc())
         && let Ok(log1) = disk.log1().to_vec(rt.alloc())
@@ -69,7 +75,7 @@ pub fn copy_of(rt: &HostRuntime, disk: &MemDisk) -> Option<MemDisk> {
     }
 }
 
-fn words_of(rt: &HostRuntime, text: &str) -> Result<Vec<String>, AllocError> {
+fn words_of(rt: &impl Host, text: &str) -> Result<Vec<String>, AllocError> {
     let mut words = Vec::new(rt.alloc());
     for word in text.split(' ') {
         words.push(word.to_string(rt.alloc())?)?;
@@ -79,7 +85,7 @@ fn words_of(rt: &HostRuntime, text: &str) -> Result<Vec<String>, AllocError> {
 
 // Does what the words say, with these operations.
 fn run_words<S: Source>(
-    rt: &HostRuntime,
+    rt: &impl Host,
     ops: Ops,
     words: &[String],
     disk: MemDisk,
@@ -102,7 +108,7 @@ fn run_words<S: Source>(
 
 /// Does what the words say, with the shipped operations. The sink's n-th call fails where n is given.
 pub fn run_from<S: Source>(
-    rt: &HostRuntime,
+    rt: &impl Host,
     words: &str,
     disk: MemDisk,
     script: &mut S,
@@ -119,7 +125,7 @@ pub fn run_from<S: Source>(
 
 /// The same with a script that comes in pieces of so many bytes.
 pub fn run_in_pieces(
-    rt: &HostRuntime,
+    rt: &impl Host,
     words: &str,
     disk: MemDisk,
     script: &[u8],
@@ -137,12 +143,12 @@ pub fn run_in_pieces(
 }
 
 /// Runs a script.
-pub fn run(rt: &HostRuntime, disk: MemDisk, script: &[u8]) -> Option<Left> {
+pub fn run(rt: &impl Host, disk: MemDisk, script: &[u8]) -> Option<Left> {
     run_in_pieces(rt, "run store", disk, script, 65_536)
 }
 
 /// Runs a script over a disk that makes so many calls.
-pub fn run_stopped(rt: &HostRuntime, disk: MemDisk, script: &[u8], calls: u64) -> Option<Left> {
+pub fn run_stopped(rt: &impl Host, disk: MemDisk, script: &[u8], calls: u64) -> Option<Left> {
     match format!(in rt.alloc(); "run store --stop-after {calls}") {
         Ok(words) => run_in_pieces(rt, words.as_str(), disk, script, 65_536),
         Err(_) => None,
@@ -150,7 +156,7 @@ pub fn run_stopped(rt: &HostRuntime, disk: MemDisk, script: &[u8], calls: u64) -
 }
 
 /// Runs a script, and hands back the disk where the run is done with these replies.
-pub fn done(rt: &HostRuntime, disk: MemDisk, script: &[u8], replies: &[u8]) -> Option<MemDisk> {
+pub fn done(rt: &impl Host, disk: MemDisk, script: &[u8], replies: &[u8]) -> Option<MemDisk> {
     match run(rt, disk, script) {
         Some(left) if left.is(Status::Done, replies) => Some(left.disk),
         _ => None,
@@ -158,7 +164,7 @@ pub fn done(rt: &HostRuntime, disk: MemDisk, script: &[u8], replies: &[u8]) -> O
 }
 
 /// Whether a script over a new store ends so, with these replies.
-pub fn goes(rt: &HostRuntime, script: &[u8], status: Status, replies: &[u8]) -> bool {
+pub fn goes(rt: &impl Host, script: &[u8], status: Status, replies: &[u8]) -> bool {
     match new_store(rt) {
         Some(disk) => run_goes(rt, disk, script, status, replies),
         None => false,
@@ -167,7 +173,7 @@ pub fn goes(rt: &HostRuntime, script: &[u8], status: Status, replies: &[u8]) -> 
 
 /// Whether a script over this disk ends so, with these replies.
 pub fn run_goes(
-    rt: &HostRuntime,
+    rt: &impl Host,
     disk: MemDisk,
     script: &[u8],
     status: Status,
@@ -181,7 +187,7 @@ pub fn run_goes(
 
 // Answers lines, which stand behind one another with an LF between.
 fn answer_lines(
-    rt: &HostRuntime,
+    rt: &impl Host,
     ops: &Ops,
     session: Lines,
     lines: &str,
@@ -198,7 +204,7 @@ fn answer_lines(
 
 // What a session with these operations leaves that answers lines.
 fn answered_with(
-    rt: &HostRuntime,
+    rt: &impl Host,
     ops: &Ops,
     disk: MemDisk,
     lines: &str,
@@ -221,7 +227,7 @@ fn answered_with(
 
 /// What a session over a new store leaves that answers lines, with the shipped operations. The sink's
 /// n-th call fails where n is given.
-pub fn answered(rt: &HostRuntime, lines: &str, sink_fails: Option<u64>) -> Option<Left> {
+pub fn answered(rt: &impl Host, lines: &str, sink_fails: Option<u64>) -> Option<Left> {
     match Ops::shipped(rt.alloc()) {
         Ok(ops) => answered_with(rt, &ops, new_store(rt)?, lines, sink_fails),
         Err(_) => None,
@@ -229,7 +235,7 @@ pub fn answered(rt: &HostRuntime, lines: &str, sink_fails: Option<u64>) -> Optio
 }
 
 /// Whether a session over a new store answers lines so, and has no fault.
-pub fn answers(rt: &HostRuntime, lines: &str, replies: &str) -> bool {
+pub fn answers(rt: &impl Host, lines: &str, replies: &str) -> bool {
     match answered(rt, lines, None) {
         Some(left) => left.is(Status::Done, replies.as_bytes()),
         None => false,
