@@ -1,5 +1,6 @@
 // What the program asks of an engine's opening.
 ghost use Rattle.std.specs.Prelude.{◌≡◌, ◌≤◌, ℕ, Some, Ok, Err, IsTrue, IfOk, IfErr, OnOk};
+ghost use Rattle.std.specs.Thread.{IsSync};
 ghost use Rattle.sg_base.specs.Ends.{HasRisen};
 ghost use Rattle.sg_disk.specs.Disk.{Image, LeavesOnly};
 ghost use Rattle.sg_gate.specs.Reads.{OnlyReads};
@@ -64,6 +65,7 @@ pub trait Opens<R: Threads + Sync, D: Presumed>: Tells + Truncates {
     /// image which reads give is that of a store. Where that doesn't hold, or the disk doesn't tell what it holds,
     /// opening is safe, and answers one or the other. A refusal hands the disk back, as opening left it.
     fn open(rt: &R, alloc: Global, ops: &Ops, disk: D) -> Result<Store<Self>, Unopened<D>>
+        requires sync { IsSync R.row }
         requires presumed { IsPresumed Self.basis says (table_of record_meaning range_meaning ops.now) D.told D.presumed (D.view disk) }
         ensures serves { IfOk result (λ s. Serves (table_of record_meaning range_meaning ops.now) s) }
         ensures opens { IfOk result (λ s. IsOpened Self.basis says (table_of record_meaning range_meaning ops.now) D.told D.presumed (D.view disk) (Self.view s.engine) (core_of s)) }
