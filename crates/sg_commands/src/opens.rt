@@ -19,7 +19,7 @@ use sg_base::Area;
 use sg_disk::{Disk, Presumed};
 use sg_geometry::Geometry;
 use sg_ops::Ops;
-use sg_store::{Store, Tells, Truncates};
+use sg_store::{Marks, Store, Tells, Truncates};
 use std::alloc::Global;
 use std::thread::Threads;
 
@@ -57,7 +57,7 @@ pub struct Unopened<D> {
 }
 
 /// An engine of a store that can be opened on a disk, in threads of a runtime.
-pub trait Opens<R: Threads + Sync, D: Presumed>: Tells + Truncates {
+pub trait Opens<R: Threads + Sync, D: Presumed>: Tells + Truncates + Marks {
     /// What images say of their stores.
     ghost says: { Says };
 
