@@ -56,15 +56,21 @@ pub struct Unopened<D> {
     pub disk: D,
 }
 
-/// An engine of a store that can be opened on a disk, in threads of a runtime.
-pub trait Opens<R: Threads + Sync, D: Presumed>: Tells + Truncates + Marks {
+/// An engine of a store that can be opened on a disk.
+pub trait Opens<D: Presumed>: Tells + Truncates + Marks {
     /// What images say of their stores.
     ghost says: { Says };
 
     /// Opens the store of a disk, whose records are of these operations. What is presumed of the disk is that the
     /// image which reads give is that of a store. Where that doesn't hold, or the disk doesn't tell what it holds,
-    /// opening is safe, and answers one or the other. A refusal hands the disk back, as opening left it.
-    fn open(rt: &R, alloc: Global, ops: &Ops, disk: D) -> Result<Store<Self>, Unopened<D>>
+    /// opening is safe, and answers one or the other. A refusal hands the disk back, as opening left it. The log is repeated in threads of the runtime,
+    /// which these may share.
+    fn open<R: Threads + Sync>(
+        rt: &R,
+        alloc: Global,
+        ops: &Ops,
+        disk: D,
+    ) -> Result<Store<Self>, Unopened<D>>
         requires sync { IsSync R.row }
         requires presumed { IsPresumed Self.basis says (table_of record_meaning range_meaning ops.now) D.told D.presumed (D.view disk) }
         ensures serves { IfOk result (λ s. Serves (table_of record_meaning range_meaning ops.now) s) }

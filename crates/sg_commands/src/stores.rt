@@ -101,7 +101,7 @@ fn numbers(sizes: &Geometry) -> Numbers
     }
 }
 
-impl<R: Threads + Sync, D: Presumed> Opens<R, D> for Paged<Phys<D>> {
+impl<D: Presumed> Opens<D> for Paged<Phys<D>> {
     ghost use Rattle.sg_ground.proofs.Collections.{one_collection};
     ghost use Rattle.sg_making.proofs.Made.{blank_none};
     ghost use Rattle.sg_mount.proofs.Standing.{has_sizes, one_log_sized};
@@ -119,7 +119,12 @@ impl<R: Threads + Sync, D: Presumed> Opens<R, D> for Paged<Phys<D>> {
 
     ghost one = { λ t c m other h k. one_collection (basis_at RecoversBy (sizes_in c)) (one_log_sized (sizes_in c)) t c m other h k };
 
-    fn open(rt: &R, alloc: Global, ops: &Ops, disk: D) -> Result<Store<Self>, Unopened<D>> {
+    fn open<R: Threads + Sync>(
+        rt: &R,
+        alloc: Global,
+        ops: &Ops,
+        disk: D,
+    ) -> Result<Store<Self>, Unopened<D>> {
         open_pages(rt, alloc, ops, disk)
     }
 

@@ -93,7 +93,7 @@ fn run_behind_fuse<
     S: Source,
     K: Sink,
     O: Origin + Presumes,
-    E: Opens<R, Fuse<D, O>>,
+    E: Opens<Fuse<D, O>>,
 >(
     rt: &R,
     alloc: Global,
@@ -155,13 +155,12 @@ fn say_made<K: Sink>(out: &mut K) -> Status
 }
 
 // Makes a store of these sizes on the disk, which makes so many calls at most where a number is given.
-fn init_behind_fuse<
-    R: Threads + Sync,
-    D: Disk,
-    K: Sink,
-    O: Origin + Presumes,
-    E: Opens<R, Fuse<D, O>>,
->(disk: D, calls: Option<u64>, sizes: &Geometry, out: &mut K) -> Finish<D>
+fn init_behind_fuse<D: Disk, K: Sink, O: Origin + Presumes, E: Opens<Fuse<D, O>>>(
+    disk: D,
+    calls: Option<u64>,
+    sizes: &Geometry,
+    out: &mut K,
+) -> Finish<D>
     requires known { IsTrue O.known }
     requires passes { O.passes ≡ calls }
     requires began { O.calls ≡ (D.view disk).calls }
@@ -186,14 +185,13 @@ fn init_behind_fuse<
 }
 
 // Makes a store on the disk, of the sizes that the source says where a file says them. Without sizes there is no call of the disk.
-fn init<
-    R: Threads + Sync,
-    D: Disk,
-    S: Source,
-    K: Sink,
-    O: Origin + Presumes,
-    E: Opens<R, Fuse<D, O>>,
->(alloc: Global, disk: D, by_file: bool, source: &mut S, out: &mut K) -> Finish<D>
+fn init<D: Disk, S: Source, K: Sink, O: Origin + Presumes, E: Opens<Fuse<D, O>>>(
+    alloc: Global,
+    disk: D,
+    by_file: bool,
+    source: &mut S,
+    out: &mut K,
+) -> Finish<D>
     requires known { IsTrue O.known }
     requires passes { O.passes ≡ None }
     requires began { O.calls ≡ (D.view disk).calls }
@@ -206,7 +204,7 @@ fn init<
     ensures spent { Spent None (D.view disk).calls (D.view result.disk).calls result.refused }
 {
     match asked_sizes(alloc, by_file, source) {
-        Ok(sizes) => init_behind_fuse::<R, D, K, O, E>(disk, None, &sizes, out),
+        Ok(sizes) => init_behind_fuse::<D, K, O, E>(disk, None, &sizes, out),
         Err(why) => {
             let status = status_of_sizes(why);
             ended_beside(status, disk)
@@ -258,7 +256,7 @@ fn objects_behind_fuse<
     D: Disk,
     K: Sink,
     O: Origin + Presumes,
-    E: Opens<R, Fuse<D, O>>,
+    E: Opens<Fuse<D, O>>,
 >(rt: &R, alloc: Global, ops: &Ops, disk: D, listing: Listing, out: &mut K) -> Finish<D>
     requires known { IsTrue O.known }
     requires passes { O.passes ≡ None }
@@ -305,7 +303,7 @@ pub fn serve<
     S: Source,
     K: Sink,
     O: Origin + Presumes,
-    E: Opens<R, Fuse<D, O>>,
+    E: Opens<Fuse<D, O>>,
 >(
     rt: &R,
     alloc: Global,
@@ -355,9 +353,7 @@ pub fn serve<
         Ok(Command::Run { stop_after }) => {
             run_behind_fuse::<R, D, S, K, O, E>(rt, alloc, &ops, disk, stop_after, script, out)
         }
-        Ok(Command::Init { geometry }) => init::<R, D, S, K, O, E>(
-            alloc, disk, geometry, script, out,
-        ),
+        Ok(Command::Init { geometry }) => init::<D, S, K, O, E>(alloc, disk, geometry, script, out),
         Ok(Command::Dump) => {
             objects_behind_fuse::<R, D, K, O, E>(rt, alloc, &ops, disk, Listing::Text, out)
         }

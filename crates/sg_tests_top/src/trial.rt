@@ -23,7 +23,7 @@ impl<R: Threads + Sync + Alloc<A = Global>> Host for R {}
 // A disk that tells nothing, so that a session over it asks for nothing.
 type Silent = Quiet<MemDisk>;
 
-type Lines<R> = Session<R, Silent>;
+type Lines = Session<Silent>;
 
 /// A new store is of these sizes.
 const SIZES: Geometry = Geometry {
@@ -186,10 +186,10 @@ pub fn run_goes(
 }
 
 // Answers lines, which stand behind one another with an LF between.
-fn answer_lines<R: Host>(
-    rt: &R,
+fn answer_lines(
+    rt: &impl Host,
     ops: &Ops,
-    session: Lines<R>,
+    session: Lines,
     lines: &str,
     out: &mut MemSink,
 ) -> (Status, Silent)
@@ -203,14 +203,14 @@ fn answer_lines<R: Host>(
 }
 
 // What a session with these operations leaves that answers lines.
-fn answered_with<R: Host>(
-    rt: &R,
+fn answered_with(
+    rt: &impl Host,
     ops: &Ops,
     disk: MemDisk,
     lines: &str,
     sink_fails: Option<u64>,
 ) -> Option<Left> {
-    match Lines::<R>::start(rt, rt.alloc(), ops, Quiet { inner: disk }) {
+    match Lines::start(rt, rt.alloc(), ops, Quiet { inner: disk }) {
         Ok(session) => {
             let mut out = MemSink::new(rt.alloc(), sink_fails);
             let (status, Quiet { inner }) = answer_lines(rt, ops, session, lines, &mut out);

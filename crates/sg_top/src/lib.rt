@@ -22,4 +22,4 @@ use sg_pages::Phys;
 pub use top::stasis;
 
 /// A store in pages that answers the lines of a script, one at a time.
-pub type Session<R, D> = SessionOver<R, D, Paged<Phys<D>>>;
+pub type Session<D> = SessionOver<D, Paged<Phys<D>>>;

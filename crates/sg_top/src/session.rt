@@ -66,15 +66,15 @@ fn make_rooms(alloc: Global) -> Result<Rooms, OutOfMemory>
 }
 
 /// A store that answers the lines of a script, one at a time, over the engine that opens it.
-pub struct SessionOver<R: Threads + Sync, D: Presumed, E: Opens<R, D>> {
+pub struct SessionOver<D: Presumed, E: Opens<D>> {
     inner: sg_session::Session<E>,
     // whether the sink failed before the store had stopped
     unheard: bool,
     room: Room,
-    opened: PhantomData<(R, D)>,
+    disk: PhantomData<D>,
 }
 
-impl<R: Threads + Sync, D: Presumed, E: Opens<R, D>> SessionOver<R, D, E> {
+impl<D: Presumed, E: Opens<D>> SessionOver<D, E> {
     ghost use Rattle.sg_run.specs.Run.{Run};
     ghost use Rattle.sg_store.specs.Engine.{KeepsBy, AsMeantBy};
     ghost use Rattle.sg_store.specs.Ground.{IsLawful};
@@ -86,12 +86,12 @@ impl<R: Threads + Sync, D: Presumed, E: Opens<R, D>> SessionOver<R, D, E> {
 
     /// Opens the store on a disk, whose records are of these operations. What is presumed of the disk is that the
     /// image which reads give is that of a store. A refusal hands the disk back, as opening left it.
-    pub fn start(
+    pub fn start<R: Threads + Sync>(
         rt: &R,
         alloc: Global,
         ops: &Ops,
         disk: D,
-    ) -> Result<SessionOver<R, D, E>, Unopened<D>>
+    ) -> Result<SessionOver<D, E>, Unopened<D>>
         requires presumed { IsPresumed E.basis E.says (table_of record_meaning range_meaning ops.now) D.told D.presumed (D.view disk) }
         ensures serves { IfOk result (λ s. Serves (table_of record_meaning range_meaning ops.now) s.inner) }
         ensures opens { IfOk result (λ s. IsOpened E.basis E.says (table_of record_meaning range_meaning ops.now) D.told D.presumed (D.view disk) (E.view (session_engine s.inner)) (session_core s.inner).store) }
@@ -109,7 +109,7 @@ impl<R: Threads + Sync, D: Presumed, E: Opens<R, D>> SessionOver<R, D, E> {
                 inner: sg_session::Session::over(store, names),
                 unheard: false,
                 room,
-                opened: PhantomData,
+                disk: PhantomData,
             }),
             Err(unopened) => Err(unopened),
         }
@@ -126,7 +126,7 @@ impl<R: Threads + Sync, D: Presumed, E: Opens<R, D>> SessionOver<R, D, E> {
             inner,
             unheard,
             room: _,
-            opened: _,
+            disk: _,
         } = self;
         let (stop, engine) = inner.finish(ops);
         let status = status_of(unheard, stop);
