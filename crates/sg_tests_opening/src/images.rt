@@ -7,9 +7,11 @@ use sg_disk::Area;
 use sg_find::OpenFault;
 use sg_ops::Ops;
 use sg_reopen::{Started, Unopened, open_engine};
+use std::alloc::Global;
 use std::marker::Brand;
 use std::sync::ledger::{Blank, Ledger};
 use std::test::Fail;
+use std::thread::Threads;
 
 // An image's bytes from there on, and why it is refused.
 #[derive(Clone, Copy)]
@@ -33,8 +35,9 @@ const fn home(at: u64, bytes: &'static [u8], wrong: u64) -> Row {
 }
 
 // Why a store is refused that has these bytes there, and how many calls but syncs changed the disk.
-fn refused<L: Ledger>(
-    rt: &HostRuntime,
+fn refused<R: Threads + Sync, L: Ledger>(
+    rt: &R,
+    alloc: Global,
     area: Area,
     at: u64,
     bytes: &[u8],
@@ -45,11 +48,11 @@ fn refused<L: Ledger>(
     requires some { 0 < L.parts }
 {
     let mut steps = Steps::<L>::open(blank);
-    let ops = Ops::shipped(rt.alloc())?;
-    let mut disk = store(rt.alloc())?;
+    let ops = Ops::shipped(alloc)?;
+    let mut disk = store(alloc)?;
     spoil(&mut disk, area, at, bytes)?;
-    let disk = anew(rt.alloc(), &disk)?;
-    match open_engine(rt, rt.alloc(), disk, &ops, &mut steps) {
+    let disk = anew(alloc, &disk)?;
+    match open_engine(rt, alloc, disk, &ops, &mut steps) {
         Ok(
             Started {
                 geometry: _,
@@ -130,7 +133,7 @@ fn a_hostile_image_is_refused_by_its_name_and_nothing_is_written(
 ) -> Result<(), Fail> {
     let alloc = rt.alloc();
     for row in &rows() {
-        let found = refused::<Brand>(&rt, row.area, row.at, row.bytes, Blank::new(1));
+        let found = refused::<_, Brand>(&rt, alloc, row.area, row.at, row.bytes, Blank::new(1));
         assert_eq!(rt; found, Ok((Some(row.fault), 0)));
     }
     Ok(())
