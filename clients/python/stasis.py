@@ -15,7 +15,7 @@ It starts `stasis run DIR` and speaks lines over its pipes, on the standard libr
 Where a `with` of a transaction ends without an exception, its commit has been answered: what it did is durable. Names are `str`, values and keys are
 `bytes` and may hold any bytes, and sizes, places, counts and codes are `int`. What the program refuses is an exception, one class for each
 word: `Busy` says who is in the way, `NoSpace` and `NoBands` their numbers. A refused call has changed nothing, and its transaction goes on: catch the
-exception within the `with` to go on with it. After `DiskFault`, and `LogEnd` of a commit or an abort, the store has stopped: close it. Where the program
+exception within the `with` to go on with it. After `DiskFault`, and `LogEnd` of a commit, an abort or `back_to`, the store has stopped: close it. Where the program
 has ended, each call raises `Ended`, with its status.
 
 Nothing waits for another transaction: what one holds is `Busy` to the others until it ends, so a caller that meets it aborts and begins again,
@@ -43,6 +43,8 @@ __all__ = [
     "NoTransaction",
     "Live",
     "TooManyLive",
+    "NoMark",
+    "MarksFull",
     "LocksFull",
     "NoObject",
     "WrongKind",
@@ -142,6 +144,18 @@ class TooManyLive(Refused):
     """64 transactions are live."""
 
     word = "too-many-live"
+
+
+class NoMark(Refused):
+    """The transaction keeps no mark with this number."""
+
+    word = "no-mark"
+
+
+class MarksFull(Refused):
+    """The transaction keeps 16 marks."""
+
+    word = "marks-full"
 
 
 class LocksFull(Refused):
@@ -244,6 +258,8 @@ _REFUSALS = {
         NoTransaction,
         Live,
         TooManyLive,
+        NoMark,
+        MarksFull,
         LocksFull,
         NoObject,
         WrongKind,
@@ -437,6 +453,14 @@ class Transaction:
             self.send(b"abort").done()
         finally:
             self.live = False
+
+    def save(self):
+        """Sets a mark, of which 16 are kept at most, and returns its number: the first is 1."""
+        return _count_of(self.send(b"save").word())
+
+    def back_to(self, mark):
+        """Takes back what it did behind the mark with this number, and forgets the marks above it. What it holds it goes on to hold."""
+        self.send(b"back", _number(mark)).done()
 
     def make_array(self, name, size):
         """Makes an array of items of `size` bytes, 1 to 256."""

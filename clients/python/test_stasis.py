@@ -64,6 +64,22 @@ class Transactions(OverStore):
             with store.transaction() as t:
                 self.assertEqual(t.find("h", b"k"), b"v")
 
+    def test_marks(self):
+        with self.open() as store:
+            with store.transaction() as t:
+                t.make_array("a", 1)
+                t.push("a", b"x")
+                with self.assertRaises(stasis.NoMark):
+                    t.back_to(1)
+                self.assertEqual([t.save() for _ in range(16)], list(range(1, 17)))
+                with self.assertRaises(stasis.MarksFull):
+                    t.save()
+                t.set("a", 0, b"y")
+                t.back_to(2)
+                self.assertEqual([t.get("a", 0), t.save()], [b"x", 3])
+            with store.transaction() as t:
+                self.assertEqual(t.get("a", 0), b"x")
+
     def test_ended_within_the_block(self):
         with self.open() as store:
             with store.transaction() as t:

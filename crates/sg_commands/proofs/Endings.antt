@@ -22,7 +22,8 @@ use Rattle.sg_store.specs.Stands as stores
 use Rattle.sg_store.specs.Store as core
 use Rattle.sg_session.specs.Shows.{Core, Shows}
 use Rattle.sg_session.specs.Lines.{Line, line_of}
-use Rattle.sg_session.specs.Lines.Line.{OfStore, Other}
+use Rattle.sg_session.specs.Lines.Line.{OfStore, OfMarks, Other}
+use Rattle.sg_words.specs.declared.marking.Marking.TheVariants as markings
 use Rattle.sg_words.specs.declared.upkeep.Upkeep.TheVariants as upkeeps
 use Rattle.sg_session.specs.Causes as causes
 use Rattle.sg_session.specs.Causes.{Trouble, trouble_in, stop_by}
@@ -115,6 +116,8 @@ stop_full tail before now s (l ∷ lines) (a ∷ answers) h e = ⊎_elim (by_tro
     by_line (OfStore upkeeps.Flush) full is = inl is
     by_line (OfStore upkeeps.Checkpoint) full is = inr full
     by_line (OfStore upkeeps.Truncate) full is = inl is
+    by_line (OfMarks name markings.Save) full is = inl is
+    by_line (OfMarks name (markings.Back mark)) full is = inr full
     by_line (Other Blank) full is = inl is
     by_line (Other Wrong) full is = inl is
     by_line (Other (Of name Begin)) full is = inl is
@@ -135,6 +138,8 @@ full_shown log_end tail v w line (inl counted) full = inl counted
 full_shown log_end tail v w (OfStore upkeeps.Flush) (inr shown) full = absurd full
 full_shown log_end tail v w (OfStore upkeeps.Checkpoint) (inr shown) full = inr (omega (arith, shown, full))
 full_shown log_end tail v w (OfStore upkeeps.Truncate) (inr shown) full = absurd full
+full_shown log_end tail v w (OfMarks name markings.Save) (inr shown) full = inr (omega (arith, shown, full))
+full_shown log_end tail v w (OfMarks name (markings.Back mark)) (inr shown) full = inr (omega (arith, shown, full))
 full_shown log_end tail v w (Other Blank) (inr shown) full = absurd full
 full_shown log_end tail v w (Other Wrong) (inr shown) full = absurd full
 full_shown log_end tail v w (Other (Of name Begin)) (inr shown) full = inr (omega (arith, shown, full))

@@ -1,5 +1,6 @@
 // What the program asks of an engine's opening.
 ghost use Rattle.std.specs.Prelude.{◌≡◌, ◌≤◌, ℕ, Some, Ok, Err, IsTrue, IfOk, IfErr, OnOk};
+ghost use Rattle.std.specs.Thread.{IsSync};
 ghost use Rattle.sg_base.specs.Ends.{HasRisen};
 ghost use Rattle.sg_disk.specs.Disk.{Image, LeavesOnly};
 ghost use Rattle.sg_gate.specs.Reads.{OnlyReads};
@@ -18,7 +19,7 @@ use sg_base::Area;
 use sg_disk::{Disk, Presumed};
 use sg_geometry::Geometry;
 use sg_ops::Ops;
-use sg_store::{Store, Tells, Truncates};
+use sg_store::{Marks, Store, Tells, Truncates};
 use std::alloc::Global;
 use std::thread::Threads;
 
@@ -56,19 +57,21 @@ pub struct Unopened<D> {
 }
 
 /// An engine of a store that can be opened on a disk.
-pub trait Opens<D: Presumed>: Tells + Truncates {
+pub trait Opens<D: Presumed>: Tells + Truncates + Marks {
     /// What images say of their stores.
     ghost says: { Says };
 
     /// Opens the store of a disk, whose records are of these operations. What is presumed of the disk is that the
     /// image which reads give is that of a store. Where that doesn't hold, or the disk doesn't tell what it holds,
-    /// opening is safe, and answers one or the other. A refusal hands the disk back, as opening left it.
+    /// opening is safe, and answers one or the other. A refusal hands the disk back, as opening left it. The log is repeated in threads of the runtime,
+    /// which these may share.
     fn open<R: Threads + Sync>(
         rt: &R,
         alloc: Global,
         ops: &Ops,
         disk: D,
     ) -> Result<Store<Self>, Unopened<D>>
+        requires sync { IsSync R.row }
         requires presumed { IsPresumed Self.basis says (table_of record_meaning range_meaning ops.now) D.told D.presumed (D.view disk) }
         ensures serves { IfOk result (λ s. Serves (table_of record_meaning range_meaning ops.now) s) }
         ensures opens { IfOk result (λ s. IsOpened Self.basis says (table_of record_meaning range_meaning ops.now) D.told D.presumed (D.view disk) (Self.view s.engine) (core_of s)) }

@@ -6,6 +6,7 @@ ghost use Rattle.sg_mount.specs.Opening.{HasOpenedOn, IsHandedBack, shown_by};
 ghost use Rattle.sg_ops.specs.Table.{table_of};
 ghost use Rattle.sg_store.specs.Seen.{core_of, Serves};
 ghost use Rattle.sg_commands.specs.Images.{IsPresumed};
+ghost use Rattle.sg_commands.specs.Opening.{IsOpened, StaysShut};
 ghost use Rattle.sg_commands.specs.Stores.{grounds, says, refused_for, making_refused_for};
 
 use crate::opens::{InitRefused, OpenRefused, Opens, Unopened};
@@ -67,6 +68,27 @@ fn open_with<R: Threads + Sync, D: Presumed, L: Ledger>(
     open_store(rt, alloc, ops, disk, &mut steps)
 }
 
+// Opens a store, and tells why one isn't in the program's words.
+fn open_pages<R: Threads + Sync, D: Presumed>(
+    rt: &R,
+    alloc: Global,
+    ops: &Ops,
+    disk: D,
+) -> Result<Store<Paged<Phys<D>>>, Unopened<D>>
+    requires presumed { IsPresumed grounds says (table_of record_meaning range_meaning ops.now) D.told D.presumed (D.view disk) }
+    ensures serves { IfOk result (λ s. Serves (table_of record_meaning range_meaning ops.now) s) }
+    ensures opens { IfOk result (λ s. IsOpened grounds says (table_of record_meaning range_meaning ops.now) D.told D.presumed (D.view disk) (shown_by s) (core_of s)) }
+    ensures refused { IfErr result (λ u. StaysShut grounds says (table_of record_meaning range_meaning ops.now) D.told D.presumed (D.view disk) (D.view u.disk) u.why) }
+{
+    match open_with::<R, D, Brand>(rt, alloc, ops, disk, Blank::new(1)) {
+        Ok(store) => Ok(store),
+        Err(Unmounted { disk, fault }) => {
+            let why = refused(fault);
+            Err(Unopened { why, disk })
+        }
+    }
+}
+
 // The numbers that a store of these sizes is made with.
 fn numbers(sizes: &Geometry) -> Numbers
     ensures { super_made result ≡ super_of sizes.now }
@@ -103,13 +125,7 @@ impl<D: Presumed> Opens<D> for Paged<Phys<D>> {
         ops: &Ops,
         disk: D,
     ) -> Result<Store<Self>, Unopened<D>> {
-        match open_with::<R, D, Brand>(rt, alloc, ops, disk, Blank::new(1)) {
-            Ok(store) => Ok(store),
-            Err(Unmounted { disk, fault }) => {
-                let why = refused(fault);
-                Err(Unopened { why, disk })
-            }
-        }
+        open_pages(rt, alloc, ops, disk)
     }
 
     fn into_disk(self) -> D {

@@ -25,6 +25,7 @@ use sg_folder::FolderDisk;
 use std::alloc::Global;
 use std::fs::File;
 use std::os::fd::AsRawFd;
+use std::thread::Threads;
 use std::{env, io};
 
 // The words after the program's name.
@@ -61,9 +62,11 @@ fn fill_standard_streams(rt: &HostRuntime) -> io::Result<[Option<File>; 3]> {
     Ok(folders)
 }
 
-// Does what the words say over this folder, or over none, from the source to standard output.
-fn run_over<S: Source>(
+// Does what the words say over this folder, or over none, from the source to standard output. A log is repeated in threads of the
+// handle that may start some.
+fn run_over<R: Threads + Sync, S: Source>(
     rt: &HostRuntime,
+    threads: &R,
     words: &[String],
     folder: Option<&str>,
     source: &mut S,
@@ -76,12 +79,12 @@ fn run_over<S: Source>(
     match folder {
         Some(path) => {
             let disk = FolderDisk::new(rt, path);
-            let (ended, _) = Ended::of_run(rt, rt.alloc(), words, disk, source, &mut out);
+            let (ended, _) = Ended::of_run(threads, rt.alloc(), words, disk, source, &mut out);
             ended
         }
         None => {
             let disk = FolderDisk::<HostRuntime>::none();
-            let (ended, _) = Ended::of_run(rt, rt.alloc(), words, disk, source, &mut out);
+            let (ended, _) = Ended::of_run(threads, rt.alloc(), words, disk, source, &mut out);
             ended
         }
     }
@@ -89,7 +92,7 @@ fn run_over<S: Source>(
 
 // Does what the words say over the folder that they name, or over none. The source is the file that they name, each of whose
 // reads fails where it can't be opened, and else standard input.
-fn run(rt: &HostRuntime, words: &[String]) -> Ended
+fn run<R: Threads + Sync>(rt: &HostRuntime, threads: &R, words: &[String]) -> Ended
     ensures usage { result ≡ Usage → are_served words.now ≡ false }
     ensures unused { are_served words.now ≡ false → (result ≡ Usage) ⊎ (result ≡ Memory) }
 {
@@ -103,23 +106,23 @@ fn run(rt: &HostRuntime, words: &[String]) -> Ended
     };
     let Some(path) = file else {
         let mut script = ReadSource::new(rt.stdin());
-        return run_over(rt, words, folder, &mut script);
+        return run_over(rt, threads, words, folder, &mut script);
     };
     match File::open(rt, path) {
         Ok(text) => {
             let mut text = ReadSource::new(text);
-            run_over(rt, words, folder, &mut text)
+            run_over(rt, threads, words, folder, &mut text)
         }
         Err(_) => {
             let mut text = Unopened::new();
-            run_over(rt, words, folder, &mut text)
+            run_over(rt, threads, words, folder, &mut text)
         }
     }
 }
 
 fn main(rt: HostRuntime) -> Ended {
     match given_words(&rt) {
-        Ok(words) => run(&rt, words.as_slice()),
+        Ok(words) => run(&rt, &rt, words.as_slice()),
         Err(e) => Ended::without_words(&e),
     }
 }

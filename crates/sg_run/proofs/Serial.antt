@@ -28,7 +28,7 @@ use Rattle.sg_words.specs.Requests.Asked.{Blank, Wrong, Of}
 use Rattle.sg_words.specs.Requests.Request.{Begin, Commit, Abort, Do}
 use Rattle.sg_words.specs.Answers.{Answer}
 use Rattle.sg_run.specs.Answer.{answer_of, IsSaid}
-use Rattle.sg_words.specs.Answers.Answer.{Silent, BadSyntax, Stopped, NoTransaction, IsLive, TooManyLive, Busy, LocksFull, Refused, NoSpace, NoBands, Memory, LogEnd, Disk, Said}
+use Rattle.sg_words.specs.Answers.Answer.{Silent, BadSyntax, Stopped, NoTransaction, IsLive, TooManyLive, NoMark, MarksFull, Busy, LocksFull, Refused, NoSpace, NoBands, Memory, LogEnd, Disk, Said}
 use Rattle.sg_run.specs.Run.{Run, start, live_named, live_objects, committed_objects, began, committed, aborted, saved, rolled_back, with_locks, did, holder_of, held_with, turn_begin, turn_commit, turn_abort, turn_held, turn_op, turn_request, turn, WouldReply, stop, stop_at, only_locks, lacking, full, broken, LineBy, Lines, Turns, MOST_LIVE, MOST_HELD}
 use Rattle.sg_run.specs.Serial.{IsSound, IsSerial, RunsAreSerial}
 
@@ -200,6 +200,8 @@ module _ (t : Operations) where
   line_keeps x y line NoTransaction h k = by_turn x y line NoTransaction h k
   line_keeps x y line IsLive h k = by_turn x y line IsLive h k
   line_keeps x y line TooManyLive h k = by_turn x y line TooManyLive h k
+  line_keeps x y line NoMark h k = by_turn x y line NoMark h k
+  line_keeps x y line MarksFull h k = by_turn x y line MarksFull h k
   line_keeps x y line (Busy name) h k = by_turn x y line (Busy name) h k
   line_keeps x y line LocksFull h k = by_turn x y line LocksFull h k
   line_keeps x y line (Refused reason) h k = by_turn x y line (Refused reason) h k

@@ -15,7 +15,7 @@ use Rattle.sg_run.specs.Numbers.{Refusal, Commits, stopped_in, at_log_end}
 use Rattle.sg_run.specs.Numbers.Refusal.{Stopped, NoTransaction, TooManyLive, Busy, LocksFull, Because, NoSpace, NoBands, LogEnd, Memory, Disk}
 use Rattle.sg_run.specs.Stocked.{Around}
 use Rattle.sg_session.specs.Lines.{Line, LineBy, CommitsAs, UnlessStopped, line_of}
-use Rattle.sg_session.specs.Lines.Line.{OfStore, Other}
+use Rattle.sg_session.specs.Lines.Line.{OfStore, OfMarks, Other}
 use Rattle.sg_session.specs.OneLine.{with_its_commit}
 use Rattle.sg_session.proofs.Commits.{adds_its_own}
 use Rattle.sg_script.specs.declared.script.RunEnd as code_end
@@ -71,6 +71,7 @@ module _ (t : Operations) (a : Around) (x y : Run) (answer : Answer) where
 
   going_step : (line : Line) → x.stopped ≡ None → LineBy t a x line answer y → Step (acks line answer) x y
   going_step (OfStore upkeep) going h = other_step _ (OfStore upkeep) refl going h
+  going_step (OfMarks name marking) going h = other_step _ (OfMarks name marking) refl going h
   going_step (Other Blank) going h = other_step _ (Other Blank) refl going h
   going_step (Other Wrong) going h = other_step _ (Other Wrong) refl going h
   going_step (Other (Of name Begin)) going h = other_step _ (Other (Of name Begin)) refl going h

@@ -10,14 +10,16 @@ use Rattle.sg_words.specs.Answers.{Answer}
 use Rattle.sg_words.specs.Requests.{Request}
 use Rattle.sg_words.specs.Requests.Asked.{Blank, Wrong, Of}
 use Rattle.sg_words.specs.Requests.Request.{Begin, Commit, Abort, Do}
+use Rattle.sg_words.specs.declared.marking.Marking.{Marking}
+use Rattle.sg_words.specs.declared.marking.Marking.TheVariants as markings
 use Rattle.sg_words.specs.declared.upkeep.Upkeep.TheVariants as upkeeps
 use Rattle.sg_run.specs.Run.{Run, live_named}
 use Rattle.sg_run.specs.Stocked.{Around}
 use Rattle.sg_run.proofs.Serial.{UnlessStopped, serial_run}
-use Rattle.sg_run.proofs.Numbers.{begin_keeps, does_keep, commit_keeps, abort_keeps, flush_keeps, checkpoint_keeps}
-use Rattle.sg_session.specs.Lines.{Line, LineBy, BeginsAs, CommitsAs, AbortsAs, DoesAs, RequestBy, line_of}
+use Rattle.sg_run.proofs.Numbers.{begin_keeps, does_keep, commit_keeps, abort_keeps, save_keeps, roll_keeps, flush_keeps, checkpoint_keeps}
+use Rattle.sg_session.specs.Lines.{Line, LineBy, BeginsAs, CommitsAs, AbortsAs, DoesAs, SavesAs, BacksAs, RequestBy, MarkingUnlessStopped, line_of}
 use Rattle.sg_session.specs.Lines as asks
-use Rattle.sg_session.specs.Lines.Line.{OfStore, Other}
+use Rattle.sg_session.specs.Lines.Line.{OfStore, OfMarks, Other}
 use Rattle.sg_store.specs.declared.engine.Engine.{Ghosts}
 use Rattle.sg_store.specs.declared.fault.Refused.TheVariants as refusals
 use Rattle.sg_store.specs.Ground.{Ground, IsLawful}
@@ -64,10 +66,24 @@ module _ (t : Operations) where
   unless a name (Some why) x y request answer h k = same x y h.1 k
   unless a name None x y request answer h k = requests a name x y request answer h k
 
+  saves : (a : Around) (l : Option Live) (x y : Run) (answer : Answer) → SavesAs a l x answer y → UnlessStopped t x → UnlessStopped t y
+  saves a None x y answer h k = same x y h.1 k
+  saves a (Some l) x y answer h k = save_keeps t x y a.begin a.before a.now l.transaction h.0 h.2 k
+
+  backs : (a : Around) (mark : ℕ) (l : Option Live) (x y : Run) (answer : Answer) → BacksAs a mark l x answer y → UnlessStopped t x → UnlessStopped t y
+  backs a mark None x y answer h k = same x y h.1 k
+  backs a mark (Some l) x y answer h k = roll_keeps t x y a.tail a.before a.now l.transaction mark h.0 h.2 k
+
+  markings_keep : (a : Around) (name : List ℕ) (s : Option Stop) (x y : Run) (marking : Marking) (answer : Answer) → MarkingUnlessStopped a name s x marking answer y → UnlessStopped t x → UnlessStopped t y
+  markings_keep a name (Some why) x y marking answer h k = same x y h.1 k
+  markings_keep a name None x y markings.Save answer h k = saves a (live_named x.so_far.live name) x y answer h k
+  markings_keep a name None x y (markings.Back mark) answer h k = backs a mark (live_named x.so_far.live name) x y answer h k
+
   line_keeps : (a : Around) (x y : Run) (line : Line) (answer : Answer) → LineBy t a x line answer y → UnlessStopped t x → UnlessStopped t y
   line_keeps a x y (OfStore upkeeps.Flush) answer h k = flush_keeps t x y a.before a.now h.0 h.2 k
   line_keeps a x y (OfStore upkeeps.Checkpoint) answer h k = checkpoint_keeps t x y a.begin a.before a.now h.0 h.2 k
   line_keeps a x y (OfStore upkeeps.Truncate) answer h k = flush_keeps t x y a.before a.now h.0 h.2 k
+  line_keeps a x y (OfMarks name marking) answer h k = markings_keep a name x.stopped x y marking answer h k
   line_keeps a x y (Other Blank) answer h k = same x y h.1 k
   line_keeps a x y (Other Wrong) answer h k = same x y h.1 k
   line_keeps a x y (Other (Of name request)) answer h k = unless a name x.stopped x y request answer h k

@@ -14,6 +14,7 @@ use Rattle.sg_model.specs.Step.{step}
 use Rattle.sg_words.specs.Answers.{Answer, text_of_answer, text_of_all}
 use Rattle.sg_words.specs.Requests.Asked.{Blank, Wrong, Of}
 use Rattle.sg_words.specs.Requests.Request.{Begin, Commit, Abort, Do}
+use Rattle.sg_words.specs.declared.marking.Marking.TheVariants as markings
 use Rattle.sg_words.specs.declared.upkeep.Upkeep.{Upkeep}
 use Rattle.sg_words.specs.declared.upkeep.Upkeep.TheVariants as upkeeps
 use Rattle.sg_words.proofs.Steps.{Takes-more}
@@ -27,8 +28,8 @@ use Rattle.sg_store.specs.Engine.{View, KeepsBy, led}
 use Rattle.sg_store.specs.Heeds.{Heeds}
 use Rattle.sg_store.specs.Stands.{StandsFor, StandsForFirst}
 use Rattle.sg_store.proofs.Heeding.{risen_on, heeds_none, heeds_then}
-use Rattle.sg_session.specs.Lines.{Line, LineBy, KeepsUp, UnlessStopped, line_of}
-use Rattle.sg_session.specs.Lines.Line.{OfStore, Other}
+use Rattle.sg_session.specs.Lines.{Line, LineBy, KeepsUp, UnlessStopped, MarkingUnlessStopped, line_of}
+use Rattle.sg_session.specs.Lines.Line.{OfStore, OfMarks, Other}
 use Rattle.sg_session.specs.Shows.{Core, Shows}
 use Rattle.sg_session.specs.Causes.{Trouble, trouble_in, IsFullFor, IsCaused, stop_by}
 use Rattle.sg_session.specs.Causes.Trouble.{NoTrouble, OfDisk, OfLog, OfMemory}
@@ -93,6 +94,7 @@ upkeep_stays a upkeeps.Truncate x y why e r h = flush_stays a.before a.now x y w
 
 pub line_stays : (t : Operations) (a : Around) (x y : Run) (why : Stop) → x.stopped ≡ Some why → (line : Line) (answer : Answer) → LineBy t a x line answer y → y ≡ x
 line_stays t a x y why e (OfStore upkeep) answer h = upkeep_stays a upkeep x y why e h.0 h.2
+line_stays t a x y why e (OfMarks name marking) answer h = (subst (λ (s : Option Stop). MarkingUnlessStopped a name s x marking answer y) e h).1
 line_stays t a x y why e (Other Blank) answer h = h.1
 line_stays t a x y why e (Other Wrong) answer h = h.1
 line_stays t a x y why e (Other (Of name request)) answer h = (subst (λ (s : Option Stop). UnlessStopped t a name s x request answer y) e h).1
@@ -178,6 +180,7 @@ module _ (t : Operations) (g : Ground) where
   -- a line of a session that has stopped
   goes_stopped : (v : View g) (k : Core) (x : Run) → is_some k.store.stopped ≡ true → Shows t g v k x → (line : Line) → Goes t g v x line (when_stopped line) v k
   goes_stopped v k x e shows (OfStore upkeep) = steps.upkeep_stopped t g v x k shows upkeep e
+  goes_stopped v k x e shows (OfMarks name marking) = steps.marks_stopped t g v x k shows name marking e
   goes_stopped v k x e shows (Other Blank) = steps.silent t g v x k shows
   goes_stopped v k x e shows (Other Wrong) = steps.bad_syntax t g v x k shows
   goes_stopped v k x e shows (Other (Of name request)) = steps.has_stopped t g v x k shows name request e
@@ -185,6 +188,7 @@ module _ (t : Operations) (g : Ground) where
 -- nothing goes wrong in a line of a session that has stopped
 no_trouble : (begin tail before now : ℕ) (line : Line) → IsCaused begin tail before now line (trouble_in (when_stopped line))
 no_trouble begin tail before now (OfStore upkeep) = tt
+no_trouble begin tail before now (OfMarks name marking) = tt
 no_trouble begin tail before now (Other Blank) = tt
 no_trouble begin tail before now (Other Wrong) = tt
 no_trouble begin tail before now (Other (Of name request)) = tt
@@ -200,6 +204,8 @@ caused_wider tail before now top bottom last line OfLog wide bb bn nl begin le h
     full_wider (OfStore upkeeps.Flush) h = h
     full_wider (OfStore upkeeps.Checkpoint) h = omega (arith, h, le)
     full_wider (OfStore upkeeps.Truncate) h = h
+    full_wider (OfMarks name markings.Save) h = omega (arith, h, le)
+    full_wider (OfMarks name (markings.Back mark)) h = omega (arith, h, wide)
     full_wider (Other Blank) h = h
     full_wider (Other Wrong) h = h
     full_wider (Other (Of name Begin)) h = omega (arith, h, le)

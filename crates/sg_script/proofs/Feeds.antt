@@ -10,6 +10,8 @@ use Rattle.sg_ops.specs.Table.{Table as Operations}
 use Rattle.sg_words.specs.Parse.{lines_of, words_of, most_line_bytes}
 use Rattle.sg_words.specs.Pieces.{behind}
 use Rattle.sg_words.specs.Requests.{Asked, asked, asked_by}
+use Rattle.sg_words.specs.Marking.{marking_of, marking_by}
+use Rattle.sg_words.specs.declared.marking.Marking.{Marking}
 use Rattle.sg_words.specs.Upkeep.{upkeep_of, upkeep_in}
 use Rattle.sg_words.specs.declared.upkeep.Upkeep.{Upkeep}
 use Rattle.sg_words.specs.Requests.Asked.{Blank, Wrong}
@@ -60,9 +62,28 @@ upkeep-kept text = by_length (nat_le (length text) MOST_KEPT) refl
         let cut : length (take MOST_KEPT text) ≡ MOST_KEPT = length-take-le MOST_KEPT text (omega arith) in
         upkeep-long (take MOST_KEPT text) (omega arith) ∙ sym (upkeep-long text (omega arith))
 
+-- nor of a transaction's marks
+marking-long : (line : List ℕ) → most_line_bytes < length line → marking_of line ≡ None
+unfolding marking_of
+marking-long line long =
+    let is : nat_lt most_line_bytes (length line) ≡ true = grind (arith, nat_tests, long) in
+    ap (λ (b : Bool). cond b None (marking_by (words_of (strip_carriage_return line)))) is
+
+marking-kept : (text : List ℕ) → marking_of (take MOST_KEPT text) ≡ marking_of text
+marking-kept text = by_length (nat_le (length text) MOST_KEPT) refl
+  where
+    by_length : (b : Bool) → nat_le (length text) MOST_KEPT ≡ b → marking_of (take MOST_KEPT text) ≡ marking_of text
+    by_length true e = ap marking_of (take_all MOST_KEPT text (leb-true (length text) MOST_KEPT e))
+    by_length false e =
+        let long : MOST_KEPT < length text = grind (arith, nat_tests, e) in
+        let cut : length (take MOST_KEPT text) ≡ MOST_KEPT = length-take-le MOST_KEPT text (omega arith) in
+        marking-long (take MOST_KEPT text) (omega arith) ∙ sym (marking-long text (omega arith))
+
 -- so what is kept of a line is the line
 pub line-kept : (text : List ℕ) → line_of (take MOST_KEPT text) ≡ line_of text
-line-kept text = ap (λ (a : Asked). line_by a (upkeep_of (take MOST_KEPT text))) (asked-kept text) ∙ ap (λ (b : Option Upkeep). line_by (asked text) b) (upkeep-kept text)
+line-kept text =
+    ap (λ (a : Asked). line_by a (upkeep_of (take MOST_KEPT text)) (marking_of (take MOST_KEPT text))) (asked-kept text)
+    ∙ (ap (λ (b : Option Upkeep). line_by (asked text) b (marking_of (take MOST_KEPT text))) (upkeep-kept text) ∙ ap (λ (m : Option (List ℕ × Marking)). line_by (asked text) (upkeep_of text) m) (marking-kept text))
 
 -- what has come of a line and a part of it, kept, is the line of both
 pub line-pending : (bytes had more part : List ℕ) → bytes ≡ more → more ≡ take MOST_KEPT (had ++ part) → line_of bytes ≡ line_of (had ++ part)

@@ -24,7 +24,8 @@ use Rattle.sg_script.specs.Ending.{AreExecuted, IsHeard}
 
 -- Each run to which so many first lines lead with these answers is serial, unless the store has stopped there: each entry of a
 -- committed transaction got the reply or the reason that it gets where the committed transactions run one whole transaction after
--- another, in the order of their commits, and the objects are those of the history without what aborted transactions did
+-- another, in the order of their commits, and the objects are those of the history without what aborted transactions did, and without what was
+-- taken back to a mark
 abbrev pub IsSerialThroughout : Operations → Span → Run → List (List ℕ) → List Answer → Type 0
 IsSerialThroughout t s x lines answers = (n : ℕ) (mid : Run) → Lines t s x (take n lines) (take n answers) mid → mid.stopped ≡ None → IsSerial t mid
 

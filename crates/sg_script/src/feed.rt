@@ -12,13 +12,13 @@ use crate::room::Room;
 use sg_base::{Failed, Sink};
 use sg_ops::Ops;
 use sg_session::Session;
-use sg_store::{Lists, Truncates};
+use sg_store::{Lists, Marks, Truncates};
 use sg_words::cut;
 use std::alloc::Global;
 
 // Executes the line that a part ends, behind what has come of it before. A line that stands whole in the
 // part is answered where it stands.
-fn end_line<E: Lists + Truncates, K: Sink>(
+fn end_line<E: Lists + Truncates + Marks, K: Sink>(
     alloc: Global,
     ops: &Ops,
     session: &mut Session<E>,
@@ -49,7 +49,7 @@ fn end_line<E: Lists + Truncates, K: Sink>(
 }
 
 /// Executes the lines that a piece of a script ends, and keeps what has come of the next line.
-pub fn feed<E: Lists + Truncates, K: Sink>(
+pub fn feed<E: Lists + Truncates + Marks, K: Sink>(
     alloc: Global,
     ops: &Ops,
     session: &mut Session<E>,

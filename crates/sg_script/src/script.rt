@@ -11,7 +11,7 @@ use crate::room::Room;
 use sg_base::{Sink, Source};
 use sg_ops::Ops;
 use sg_session::Session;
-use sg_store::{Lists, Truncates};
+use sg_store::{Lists, Marks, Truncates};
 use std::alloc::Global;
 
 /// The most bytes of a script.
@@ -31,7 +31,7 @@ pub enum RunEnd {
 }
 
 /// Executes the lines of a script as the source gives them, with the operations of the session's records.
-pub fn run_script<E: Lists + Truncates, S: Source, K: Sink>(
+pub fn run_script<E: Lists + Truncates + Marks, S: Source, K: Sink>(
     alloc: Global,
     ops: &Ops,
     session: &mut Session<E>,

@@ -15,7 +15,7 @@ use sg_base::{Sink, Source};
 use sg_model::Stop;
 use sg_ops::Ops;
 use sg_session::Session;
-use sg_store::{Lists, Truncates};
+use sg_store::{Lists, Marks, Truncates};
 use std::alloc::Global;
 
 /// How the run of a session ended.
@@ -32,7 +32,7 @@ pub struct Ended<E> {
 
 /// Runs a script by a session, with the operations of its records, and ends the session, also where the
 /// source or the sink has failed.
-pub fn run<E: Lists + Truncates, S: Source, K: Sink>(
+pub fn run<E: Lists + Truncates + Marks, S: Source, K: Sink>(
     alloc: Global,
     ops: &Ops,
     session: Session<E>,

@@ -7,8 +7,11 @@ use Rattle.sg_model.specs.Verb.{Op}
 use Rattle.sg_words.specs.Answers.{Answer}
 use Rattle.sg_words.specs.Requests.Asked.{Of}
 use Rattle.sg_words.specs.Requests.Request.{Begin, Commit, Abort, Do}
+use Rattle.sg_words.specs.declared.marking.Marking.TheVariants as markings
 use Rattle.sg_words.specs.declared.upkeep.Upkeep.TheVariants as upkeeps
 use Rattle.sg_run.specs.Numbers.{IsAtEnd, IsListing}
+use Rattle.sg_store.specs.declared.fault.MarkRefused.{MarkRefused}
+use Rattle.sg_store.specs.declared.fault.MarkRefused.TheVariants as marks
 use Rattle.sg_store.specs.declared.fault.Refused.{Refused}
 use Rattle.sg_store.specs.declared.fault.Refused.TheVariants as refusals
 use Rattle.sg_store.specs.Ground.{Ground}
@@ -16,10 +19,10 @@ use Rattle.sg_store.specs.Engine.{Sizes, Shown}
 use Rattle.sg_store.specs.Stops.{stop_behind}
 use Rattle.sg_store.specs.Heeds.{Heeds}
 use Rattle.sg_store.specs.Store.{Core}
-use Rattle.sg_store.specs.Causes.{BeginsFor, EndsFor, FlushesFor, ChecksFor, ClosesFor, RefusesFor, UnlistedFor}
+use Rattle.sg_store.specs.Causes.{AsksNoMark, BeginsFor, EndsFor, SavesFor, RollsFor, FlushesFor, ChecksFor, ClosesFor, RefusesFor, UnlistedFor}
 use Rattle.sg_session.specs.Lines.{Line}
-use Rattle.sg_session.specs.Lines.Line.{OfStore, Other}
-use Rattle.sg_session.specs.Causes.{Trouble, trouble_in, trouble_of, IsFullFor, IsCaused, stop_at_end, stop_by, Caused}
+use Rattle.sg_session.specs.Lines.Line.{OfStore, OfMarks, Other}
+use Rattle.sg_session.specs.Causes.{Trouble, trouble_in, trouble_of, trouble_at_mark, IsFullFor, IsCaused, stop_at_end, stop_by, Caused}
 use Rattle.sg_session.specs.Causes.Trouble.{NoTrouble, OfDisk, OfLog, OfMemory}
 
 was_stopped : (s : Option Stop) (why : Stop) → s ≡ Some why → s ≡ None → ⊥
@@ -162,6 +165,53 @@ module _ {basis : Sizes → Ground} (old new : Shown basis) where
     checkpoint_stops refusals.Memory h going = absurd h
     checkpoint_stops refusals.DiskFault h going = was_stopped m.stopped stops.Disk (ap (λ (c : Core). c.stopped) h.1.1) going
     checkpoint_stops refusals.Stopped h going = is_going k.stopped h.0 (sym (ap (λ (c : Core). c.stopped) h.1) ∙ going)
+
+    -- a line of a mark, and of a way back to one
+    pub save_refused : (name : List ℕ) (u : ℕ) (why : MarkRefused) → SavesFor u old new k m (Err why) → CausedBy k.stopped m.stopped (OfMarks name markings.Save) (trouble_at_mark why)
+    save_refused name u marks.NoMark h = absurd h
+    save_refused name u marks.MarksFull h = plain (OfMarks name markings.Save) k refl h.3
+    save_refused name u (marks.Store refusals.NoTxn) h = plain (OfMarks name markings.Save) k refl h.2
+    save_refused name u (marks.Store refusals.TooManyLive) h = absurd h
+    save_refused name u (marks.Store (refusals.Busy holder)) h = absurd h
+    save_refused name u (marks.Store refusals.LocksFull) h = absurd h
+    save_refused name u (marks.Store (refusals.Model reason)) h = absurd h
+    save_refused name u (marks.Store (refusals.NoSpace free reserved need)) h = absurd h
+    save_refused name u (marks.Store (refusals.NoBands free need)) h = absurd h
+    save_refused name u (marks.Store refusals.LogEnd) h = full (OfMarks name markings.Save) k h.3 refl h.4
+    save_refused name u (marks.Store refusals.Memory) h = absurd h
+    save_refused name u (marks.Store refusals.DiskFault) h = broken (OfMarks name markings.Save) (record k { held = m.held; stopped = Some stops.Disk }) h.4.0 refl h.4.1
+    save_refused name u (marks.Store refusals.Stopped) h = plain (OfMarks name markings.Save) k refl h.1
+
+    pub back_refused : (name : List ℕ) (mark u : ℕ) (why : MarkRefused) → RollsFor u mark old new k m (Err why) → CausedBy k.stopped m.stopped (OfMarks name (markings.Back mark)) (trouble_at_mark why)
+    back_refused name mark u marks.NoMark h = plain (OfMarks name (markings.Back mark)) k refl h.3
+    back_refused name mark u marks.MarksFull h = absurd h
+    back_refused name mark u (marks.Store refusals.NoTxn) h = plain (OfMarks name (markings.Back mark)) k refl h.2
+    back_refused name mark u (marks.Store refusals.TooManyLive) h = absurd h
+    back_refused name mark u (marks.Store (refusals.Busy holder)) h = absurd h
+    back_refused name mark u (marks.Store refusals.LocksFull) h = absurd h
+    back_refused name mark u (marks.Store (refusals.Model reason)) h = absurd h
+    back_refused name mark u (marks.Store (refusals.NoSpace free reserved need)) h = absurd h
+    back_refused name mark u (marks.Store (refusals.NoBands free need)) h = absurd h
+    back_refused name mark u (marks.Store refusals.LogEnd) h = full (OfMarks name (markings.Back mark)) (record k { live = m.live; stopped = Some stops.LogEnd }) h.3 refl h.4
+    back_refused name mark u (marks.Store refusals.Memory) h = absurd h
+    back_refused name mark u (marks.Store refusals.DiskFault) h = broken (OfMarks name (markings.Back mark)) (record k { live = m.live; stopped = Some stops.Disk }) h.3 refl h.4
+    back_refused name mark u (marks.Store refusals.Stopped) h = plain (OfMarks name (markings.Back mark)) k refl h.1
+
+    -- a way back that is refused and doesn't stop the store asks nothing of the engine
+    pub back_stops : (mark u : ℕ) (why : MarkRefused) → RollsFor u mark old new k m (Err why) → m.stopped ≡ None → AsksNoMark why
+    back_stops mark u marks.NoMark h going = tt
+    back_stops mark u marks.MarksFull h going = tt
+    back_stops mark u (marks.Store refusals.NoTxn) h going = tt
+    back_stops mark u (marks.Store refusals.TooManyLive) h going = tt
+    back_stops mark u (marks.Store (refusals.Busy holder)) h going = absurd h
+    back_stops mark u (marks.Store refusals.LocksFull) h going = absurd h
+    back_stops mark u (marks.Store (refusals.Model reason)) h going = absurd h
+    back_stops mark u (marks.Store (refusals.NoSpace free reserved need)) h going = absurd h
+    back_stops mark u (marks.Store (refusals.NoBands free need)) h going = absurd h
+    back_stops mark u (marks.Store refusals.LogEnd) h going = absurd (was_stopped m.stopped stops.LogEnd (ap (λ (c : Core). c.stopped) h.4) going)
+    back_stops mark u (marks.Store refusals.Memory) h going = absurd h
+    back_stops mark u (marks.Store refusals.DiskFault) h going = absurd (was_stopped m.stopped stops.Disk (ap (λ (c : Core). c.stopped) h.4) going)
+    back_stops mark u (marks.Store refusals.Stopped) h going = tt
 
     -- a line of an operation
     pub do_refused : (name : List ℕ) (op : Op) (changes : Bool) (u : ℕ) (why : Refused) → RefusesFor changes u old new k m why → CausedBy k.stopped m.stopped (Other (Of name (Do op))) (trouble_of why)

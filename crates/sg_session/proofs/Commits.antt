@@ -18,18 +18,21 @@ use Rattle.sg_words.specs.Answers.{Answer}
 use Rattle.sg_words.specs.Requests.{Request}
 use Rattle.sg_words.specs.Requests.Asked.{Blank, Wrong, Of}
 use Rattle.sg_words.specs.Requests.Request.{Begin, Commit, Abort, Do}
+use Rattle.sg_words.specs.declared.marking.Marking.{Marking}
+use Rattle.sg_words.specs.declared.marking.Marking.TheVariants as markings
 use Rattle.sg_words.specs.declared.upkeep.Upkeep.{Upkeep}
 use Rattle.sg_words.specs.declared.upkeep.Upkeep.TheVariants as upkeeps
-use Rattle.sg_run.specs.Run.{Run, Event, live_named, began, committed, aborted, did, with_locks, stop, committed_objects, objects_after}
-use Rattle.sg_run.specs.Numbers.{Refusal, Begins, Does, Commits, Aborts, Flushes, Checkpoints, stopped_in, at_log_end}
+use Rattle.sg_run.specs.Run.{Run, Event, live_named, began, committed, aborted, saved, rolled_back, did, with_locks, stop, committed_objects, objects_after}
+use Rattle.sg_run.specs.Numbers.{Refusal, MarkRefusal, Begins, Does, Commits, Aborts, Saves, RollsBack, Flushes, Checkpoints, stopped_in, at_log_end}
 use Rattle.sg_run.specs.Numbers.Refusal.{Stopped, NoTransaction, TooManyLive, Busy, LocksFull, Because, NoSpace, NoBands, LogEnd, Memory, Disk}
+use Rattle.sg_run.specs.Numbers.MarkRefusal.{NoMark, MarksFull, Otherwise}
 use Rattle.sg_run.specs.Stocked.{Around}
 use Rattle.sg_run.proofs.Serial.{find_live}
 use Rattle.sg_store.specs.Ground.{Ground}
 use Rattle.sg_store.specs.Engine.{View}
 use Rattle.sg_store.specs.Stands.{StandsFor, StandsForFirst}
-use Rattle.sg_session.specs.Lines.{Line, LineBy, KeepsUp, RequestBy, UnlessStopped, BeginsAs, CommitsAs, AbortsAs, DoesAs}
-use Rattle.sg_session.specs.Lines.Line.{OfStore, Other}
+use Rattle.sg_session.specs.Lines.{Line, LineBy, KeepsUp, RequestBy, UnlessStopped, BeginsAs, CommitsAs, AbortsAs, DoesAs, SavesAs, BacksAs, MarkingBy, MarkingUnlessStopped}
+use Rattle.sg_session.specs.Lines.Line.{OfStore, OfMarks, Other}
 use Rattle.sg_session.specs.Shows.{Core, Shows}
 use Rattle.sg_session.specs.Goes.{Goes}
 use Rattle.sg_session.specs.OneLine.{with_commit_of, with_its_commit, OneLine}
@@ -69,6 +72,38 @@ abort_keeps tail before now u x y (Err (NoBands free need)) h = absurd h
 abort_keeps tail before now u x y (Err LogEnd) h = same x y (stop stops.LogEnd x) refl refl refl h.2
 abort_keeps tail before now u x y (Err Memory) h = absurd h
 abort_keeps tail before now u x y (Err Disk) h = same x y (stop stops.Disk x) refl refl refl h.2.after
+
+pub save_keeps : (tail before now u : ℕ) (x y : Run) (r : Result ℕ MarkRefusal) → Saves tail before now u x r y → AddsNone x y
+save_keeps tail before now u x y (Ok n) h = same x y (saved x u h.5.0) refl refl refl h.5.2
+save_keeps tail before now u x y (Err NoMark) h = absurd h
+save_keeps tail before now u x y (Err MarksFull) h = same x y x refl refl refl h.3
+save_keeps tail before now u x y (Err (Otherwise Stopped)) h = same x y x refl refl refl h.1
+save_keeps tail before now u x y (Err (Otherwise NoTransaction)) h = same x y x refl refl refl h.2
+save_keeps tail before now u x y (Err (Otherwise TooManyLive)) h = absurd h
+save_keeps tail before now u x y (Err (Otherwise (Busy holder))) h = absurd h
+save_keeps tail before now u x y (Err (Otherwise LocksFull)) h = absurd h
+save_keeps tail before now u x y (Err (Otherwise (Because reason))) h = absurd h
+save_keeps tail before now u x y (Err (Otherwise (NoSpace free reserved need))) h = absurd h
+save_keeps tail before now u x y (Err (Otherwise (NoBands free need))) h = absurd h
+save_keeps tail before now u x y (Err (Otherwise LogEnd)) h = same x y x refl refl refl h.4
+save_keeps tail before now u x y (Err (Otherwise Memory)) h = absurd h
+save_keeps tail before now u x y (Err (Otherwise Disk)) h = same x y (stop stops.Disk x) refl refl refl h.3.after
+
+pub back_keeps : (tail before now u mark : ℕ) (x y : Run) (r : Result (Unit {0}) MarkRefusal) → RollsBack tail before now u mark x r y → AddsNone x y
+back_keeps tail before now u mark x y (Ok done) h = same x y (rolled_back x u h.2.0.time mark) refl refl refl h.2.2
+back_keeps tail before now u mark x y (Err NoMark) h = same x y x refl refl refl h.3
+back_keeps tail before now u mark x y (Err MarksFull) h = absurd h
+back_keeps tail before now u mark x y (Err (Otherwise Stopped)) h = same x y x refl refl refl h.1
+back_keeps tail before now u mark x y (Err (Otherwise NoTransaction)) h = same x y x refl refl refl h.2
+back_keeps tail before now u mark x y (Err (Otherwise TooManyLive)) h = absurd h
+back_keeps tail before now u mark x y (Err (Otherwise (Busy holder))) h = absurd h
+back_keeps tail before now u mark x y (Err (Otherwise LocksFull)) h = absurd h
+back_keeps tail before now u mark x y (Err (Otherwise (Because reason))) h = absurd h
+back_keeps tail before now u mark x y (Err (Otherwise (NoSpace free reserved need))) h = absurd h
+back_keeps tail before now u mark x y (Err (Otherwise (NoBands free need))) h = absurd h
+back_keeps tail before now u mark x y (Err (Otherwise LogEnd)) h = same x y (stop stops.LogEnd x) refl refl refl h.3
+back_keeps tail before now u mark x y (Err (Otherwise Memory)) h = absurd h
+back_keeps tail before now u mark x y (Err (Otherwise Disk)) h = same x y (stop stops.Disk x) refl refl refl h.3.after
 
 pub flush_keeps : (before now : ℕ) (x y : Run) (r : Result (Unit {0}) Refusal) → Flushes before now x r y → AddsNone x y
 flush_keeps before now x y (Ok done) h = same x y x refl refl refl h.1
@@ -180,6 +215,18 @@ module _ (t : Operations) (a : Around) (x : Run) (going : x.stopped ≡ None) (y
   by_do op None h = keeps_self x y h.1
   by_do op (Some l) h = does_keep t a.begin a.tail a.before a.now l.transaction op x y h.0 h.2
 
+  by_save : (o : Option Live) → SavesAs a o x answer y → AddsNone x y
+  by_save None h = keeps_self x y h.1
+  by_save (Some l) h = save_keeps a.begin a.before a.now l.transaction x y h.0 h.2
+
+  by_back : (mark : ℕ) (o : Option Live) → BacksAs a mark o x answer y → AddsNone x y
+  by_back mark None h = keeps_self x y h.1
+  by_back mark (Some l) h = back_keeps a.tail a.before a.now l.transaction mark x y h.0 h.2
+
+  by_marking : (name : List ℕ) (marking : Marking) → MarkingBy a name x marking answer y → AddsNone x y
+  by_marking name markings.Save h = by_save (live_named x.so_far.live name) h
+  by_marking name (markings.Back mark) h = by_back mark (live_named x.so_far.live name) h
+
   by_commit : (name : List ℕ) (o : Option Live) → live_named x.so_far.live name ≡ o → CommitsAs a o x answer y → AddsOf x o y
   by_commit name None is h = let k = keeps_self x y h.1 in (k.first, inl k.commits, (λ e. k.commits), (λ le. (let same = k.answered in omega (arith, same))))
   by_commit name (Some l) is h = commit_adds a.tail a.before a.now l x y h.0 going (find_live name x.so_far.live l is) h.2
@@ -192,6 +239,7 @@ module _ (t : Operations) (a : Around) (x : Run) (going : x.stopped ≡ None) (y
 
   pub adds_its_own : (line : Line) → LineBy t a x line answer y → AddsItsOwn x line y
   adds_its_own (OfStore upkeep) h = kept x y (OfStore upkeep) refl (upkeep_keeps a upkeep x y h.0 h.2)
+  adds_its_own (OfMarks name marking) h = kept x y (OfMarks name marking) refl (by_marking name marking (subst (λ (s : Option Stop). MarkingUnlessStopped a name s x marking answer y) going h))
   adds_its_own (Other Blank) h = kept x y (Other Blank) refl (keeps_self x y h.1)
   adds_its_own (Other Wrong) h = kept x y (Other Wrong) refl (keeps_self x y h.1)
   adds_its_own (Other (Of name request)) h = by_request name request (subst (λ (s : Option Stop). UnlessStopped t a name s x request answer y) going h)
@@ -202,6 +250,7 @@ first_with x (Some l) = refl
 
 first_with_its : (x : Run) (line : Line) → (with_its_commit x line).so_far.first ≡ x.so_far.first
 first_with_its x (OfStore upkeep) = refl
+first_with_its x (OfMarks name marking) = refl
 first_with_its x (Other Blank) = refl
 first_with_its x (Other Wrong) = refl
 first_with_its x (Other (Of name Begin)) = refl
@@ -222,6 +271,7 @@ more_with x (Some l) = (filter (is_own l.transaction) x.so_far.history ∷ [], r
 
 pub more_with_its : (x : Run) (line : Line) → More x (with_its_commit x line)
 more_with_its x (OfStore upkeep) = none_more x x refl
+more_with_its x (OfMarks name marking) = none_more x x refl
 more_with_its x (Other Blank) = none_more x x refl
 more_with_its x (Other Wrong) = none_more x x refl
 more_with_its x (Other (Of name Begin)) = none_more x x refl

@@ -1,6 +1,7 @@
 -- The live transactions abort at the end, one after another, and then a checkpoint is made and all is written home.
 use Rattle.std.proofs.Common.{◌≡◌, inl, inr, ℕ, suc, ◌<◌, ◌≤◌, Bool, true, false, cond, not, List, [], ◌∷◌, length, Option, Some, None, refl, sym, ap, ◌∙◌, subst, arith}
 use Rattle.std.specs.Prelude.{◌==◌, ◌||◌, Result, Ok, Err, take, IsSome, is_some}
+use Rattle.std.specs.Option.{option_map}
 use Rattle.std.proofs.lemmas.Bool.{eq-eqb}
 use Rattle.sg_disk.specs.Disk.{Image, LeavesOnly}
 use Rattle.sg_disk.proofs.Moments.{started, weaker, joined}
@@ -24,12 +25,13 @@ use Rattle.sg_store.specs.Engine.{View}
 use Rattle.sg_store.specs.Stands.{StandsFor, StandsForFirst}
 use Rattle.sg_store.specs.Calls.{Goes, Aborts, Checkpoints}
 use Rattle.sg_store.specs.Store as stores
-use Rattle.sg_session.specs.Names.{first_live}
+use Rattle.sg_session.specs.Names.{unmarked, all_unmarked, first_live}
 use Rattle.sg_session.specs.Shows.{Core, Shows}
 use Rattle.sg_session.specs.Ending.{AbortsAll, AddsNone, HasAborted, AreAborting, IsClosed, IsEnded}
 use Rattle.sg_session.specs.Ending.AbortInOrder.{none, and_first}
 use Rattle.sg_session.proofs.Commits.{abort_keeps, checkpoint_keeps, after_all, same_objects}
 use Rattle.sg_session.proofs.Named.{aborted_live, abort_live}
+use Rattle.sg_session.proofs.Unmarked.{first_unmarked, found, none_found}
 
 -- fewer are live without the first
 shorter_step : (b : Bool) (l : Live) (rest : List Live) (n : ℕ) → length rest ≤ n → length (cond b (l ∷ rest) rest) ≤ suc n
@@ -119,8 +121,12 @@ module _ (t : Operations) (g : Ground) where
   }
 
   module _ (v : View g) (x : Run) (w : View g) (m : Core) (h : AreAborting t g v x w m) where
-    names : m.names ≡ h.mid.so_far.live
+    names : m.names ≡ all_unmarked h.mid.so_far.live
     names = h.shows.names h.going
+
+    -- the first one that is live, by the names
+    first_of : (o : Option Live) → o ≡ first_live m.names → o ≡ option_map unmarked (first_live h.mid.so_far.live)
+    first_of o is = is ∙ (ap first_live names ∙ first_unmarked h.mid.so_far.live)
 
     -- the moments of one call more
     along : (u : View g) (y : Run) → AddsNone h.mid y → LeavesOnly w.disk u.disk (StandsForFirst t g h.mid.so_far.answered y) → LeavesOnly v.disk u.disk (StandsForFirst t g x.so_far.answered x)
@@ -130,9 +136,10 @@ module _ (t : Operations) (g : Ground) where
         → Goes t g w h.mid (Aborts u.tail w.faults u.faults l.transaction h.mid (Ok tt)) u n → AreAborting t g v x u (record { store = n; names = left })
     one_aborted u n left l is without_it goes =
         let a = abort_keeps u.tail w.faults u.faults l.transaction h.mid goes.after (Ok tt) goes.goes in
+        let p = found (first_live h.mid.so_far.live) l (first_of (Some l) is) in
         record {
           mid = goes.after;
-          done = and_first h.mid goes.after l u.tail w.faults u.faults h.done (sym (is ∙ ap first_live names)) goes.goes;
+          done = and_first h.mid goes.after p.0 u.tail w.faults u.faults h.done p.1 (subst (λ (i : ℕ). AbortsSo u.tail w.faults u.faults i h.mid (Ok tt) goes.after) (sym p.2) goes.goes);
           going = ap (λ (r : Run). r.stopped) goes.goes.2 ∙ h.going;
           adds_none = adds_then x h.mid goes.after h.adds_none a;
           shows = record {
@@ -172,21 +179,22 @@ module _ (t : Operations) (g : Ground) where
         → Goes t g w h.mid (Aborts u.tail w.faults u.faults l.transaction h.mid (Err why)) u n → HasAborted t g v x u (record { store = n; names = m.names })
     abort_failed u n l why is goes =
         let a = abort_keeps u.tail w.faults u.faults l.transaction h.mid goes.after (Err (said_refusal why)) goes.goes in
-        let first = sym (is ∙ ap first_live names) in
+        let p = found (first_live h.mid.so_far.live) l (first_of (Some l) is) in
+        let fails : AbortsSo u.tail w.faults u.faults p.0.transaction h.mid (Err (said_refusal why)) goes.after = subst (λ (i : ℕ). AbortsSo u.tail w.faults u.faults i h.mid (Err (said_refusal why)) goes.after) (sym p.2) goes.goes in
         record {
           after = goes.after;
-          aborts = record { mid = h.mid; done = h.done; over = inr (record { first = l; is_first = first; why = said_refusal why; tail = u.tail; before = w.faults; now = u.faults; fails = goes.goes }) };
-          none_live = λ e. absurd (stopped_or_same u.tail w.faults u.faults l goes.after (said_refusal why) first goes.goes e);
+          aborts = record { mid = h.mid; done = h.done; over = inr (record { first = p.0; is_first = p.1; why = said_refusal why; tail = u.tail; before = w.faults; now = u.faults; fails = fails }) };
+          none_live = λ e. absurd (stopped_or_same u.tail w.faults u.faults p.0 goes.after (said_refusal why) p.1 fails e);
           adds_none = adds_then x h.mid goes.after h.adds_none a;
-          shows = record { store = goes.shows; names = λ e. absurd (stopped_or_same u.tail w.faults u.faults l goes.after (said_refusal why) first goes.goes e) };
+          shows = record { store = goes.shows; names = λ e. absurd (stopped_or_same u.tail w.faults u.faults p.0 goes.after (said_refusal why) p.1 fails e) };
           moments = along u goes.after a goes.moments;
         }
 
     pub all_aborted : None ≡ first_live m.names → HasAborted t g v x w m
     all_aborted is = record {
       after = h.mid;
-      aborts = record { mid = h.mid; done = h.done; over = inl (none_first h.mid.so_far.live (sym (is ∙ ap first_live names)), refl) };
-      none_live = λ e. none_first h.mid.so_far.live (sym (is ∙ ap first_live names));
+      aborts = record { mid = h.mid; done = h.done; over = inl (none_first h.mid.so_far.live (none_found (first_live h.mid.so_far.live) (first_of None is)), refl) };
+      none_live = λ e. none_first h.mid.so_far.live (none_found (first_live h.mid.so_far.live) (first_of None is));
       adds_none = h.adds_none;
       shows = h.shows;
       moments = h.moments;

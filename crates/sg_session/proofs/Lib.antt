@@ -1,4 +1,5 @@
 pub mod Finding
+pub mod Unmarked
 pub mod Named
 pub mod Causing
 pub mod Stocking

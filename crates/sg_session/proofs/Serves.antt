@@ -10,6 +10,7 @@ use Rattle.sg_store.specs.Engine.{View, Sizes, Shown, led, AskedBy}
 use Rattle.sg_store.specs.Asks as stores
 use Rattle.sg_store.specs.Store as store
 use Rattle.sg_session.specs.Lines.{Line}
+use Rattle.sg_session.specs.Names.{all_unmarked}
 use Rattle.sg_session.specs.Shows.{Core, Shows, ShowsSome}
 use Rattle.sg_session.specs.Goes.{Goes}
 
@@ -46,7 +47,7 @@ module _ {basis : Sizes → Ground} where
   }
 
 -- a store without a live transaction shows no names
-no_lives : (ls : List Live) → [] ≡ map (λ (l : Live). l.transaction) ls → [] ≡ ls
+no_lives : (ls : List Live) → [] ≡ map (λ (l : Live). l.transaction) ls → [] ≡ all_unmarked ls
 no_lives [] e = refl
 no_lives (l ∷ ls) e = absurd (cc)
 

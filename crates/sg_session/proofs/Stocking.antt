@@ -1,5 +1,5 @@
 -- The numbers of an answer, by the stock that is shown.
-use Rattle.std.proofs.Common.{◌≡◌, ◌⊎◌, inl, ℕ, ◌+◌, ◌≤◌, true, List, Option, Some, None, refl, ap, ◌∙◌, subst, arith}
+use Rattle.std.proofs.Common.{◌≡◌, ◌⊎◌, inl, ℕ, ◌+◌, ◌≤◌, true, List, Option, Some, None, refl, sym, ap, ◌∙◌, subst, arith}
 use Rattle.std.specs.Prelude.{Result, Ok, Err, sum_by, is_ok}
 use Rattle.std.specs.FinMap.{get}
 use Rattle.sg_ops.specs.Table.{Table as Operations}
@@ -22,9 +22,11 @@ use Rattle.sg_store.specs.declared.fault.Refused.{Refused}
 use Rattle.sg_store.specs.declared.fault.Refused.TheVariants as refusals
 use Rattle.sg_store.specs.Refusals.{said_refusal, said_outcome}
 use Rattle.sg_store.specs.Ground.{Ground, IsLawful}
-use Rattle.sg_store.specs.Engine.{View, Sizes, Shown, pages_of}
+use Rattle.sg_store.specs.declared.engine.Engine.{Ghosts}
+use Rattle.sg_store.specs.declared.store.Store as code_store
+use Rattle.sg_store.specs.Engine.{View, Sizes, Shown, led, pages_of}
 use Rattle.sg_store.specs.Room.{ShowsStock, LeavesRoom, AcceptsOp}
-use Rattle.sg_store.specs.Stock.{NeedsByStock}
+use Rattle.sg_store.specs.Stock.{LeavesStock, NeedsByStock}
 use Rattle.sg_store.specs.Calls as calls
 use Rattle.sg_store.specs.Causes.{UnlistedFor}
 use Rattle.sg_store.specs.Store as stores
@@ -155,3 +157,9 @@ pub list_after : (t : Operations) (x : Stocked) (u : ℕ) (op : Op) (reply : Rep
 list_after t x u op reply is e =
     by_list (λ o. (step t (live_objects t x.run) o).0 ≡ Ok reply → StockAfter t x u o (Ok reply) x.stock)
     (λ name z. looked (keys_ok t (live_objects t x.run) name reply z) tt (keys_leave t (get (live_objects t x.run) name))) (λ z. refl) op is e
+
+-- a call that asked nothing of its engine leaves the stock
+pub asked_none : {E : Type 0} (ghosts : Ghosts E) (t : Operations) (z : Sizes) (from : (ghosts.basis z).X) (s u : code_store.Store E ghosts) → u ≡ s
+    → LeavesStock t (ghosts.basis z) (led t z from (ghosts.view s.engine)) (led t z from (ghosts.view u.engine))
+asked_none {E = E} ghosts t z from s u same =
+    subst (λ (i : code_store.Store E ghosts). LeavesStock t (ghosts.basis z) (led t z from (ghosts.view s.engine)) (led t z from (ghosts.view i.engine))) (sym same) (λ r shown. shown)

@@ -7,14 +7,17 @@ use Rattle.sg_words.specs.Answers.{Answer}
 use Rattle.sg_words.specs.Answers.Answer.{LogEnd, Memory, Disk}
 use Rattle.sg_words.specs.Requests.Asked.{Of}
 use Rattle.sg_words.specs.Requests.Request.{Begin, Commit, Abort, Do}
+use Rattle.sg_words.specs.declared.marking.Marking.TheVariants as markings
 use Rattle.sg_words.specs.declared.upkeep.Upkeep.TheVariants as upkeeps
 use Rattle.sg_run.specs.Numbers.{NEW_WORK_END, IsAtEnd, IsListing}
 use Rattle.sg_store.specs.Ground.{Ground}
 use Rattle.sg_store.specs.Engine.{Sizes, Shown}
+use Rattle.sg_store.specs.declared.fault.MarkRefused.{MarkRefused}
+use Rattle.sg_store.specs.declared.fault.MarkRefused.TheVariants as marks
 use Rattle.sg_store.specs.declared.fault.Refused.{Refused}
 use Rattle.sg_store.specs.declared.fault.Refused.TheVariants as refusals
 use Rattle.sg_session.specs.Lines.{Line}
-use Rattle.sg_session.specs.Lines.Line.{OfStore, Other}
+use Rattle.sg_session.specs.Lines.Line.{OfStore, OfMarks, Other}
 
 -- what an answer says that went wrong: nothing, or that the disk failed, that the log is at its end, or that memory ran out
 pub data Trouble : Type 0 where
@@ -36,14 +39,21 @@ trouble_of refusals.Memory = OfMemory
 trouble_of refusals.DiskFault = OfDisk
 trouble_of other = NoTrouble
 
--- The log is full for a line, with its tail before the line and behind it: for new work where the tail was above 2^62; for the end of a
--- transaction, and for a checkpoint, where a record of the greatest size might pass 2^63
+-- and of one of a call on marks
+abbrev pub trouble_at_mark : MarkRefused → Trouble
+trouble_at_mark (marks.Store why) = trouble_of why
+trouble_at_mark other = NoTrouble
+
+-- The log is full for a line, with its tail before the line and behind it: for new work, and for a mark, where the tail was above 2^62; for the
+-- end of a transaction, for a way back to a mark, and for a checkpoint, where a record of the greatest size might pass 2^63
 abbrev pub IsFullFor : (begin tail : ℕ) → Line → Type 0
 IsFullFor begin tail (Other (Of name Begin)) = NEW_WORK_END < begin
 IsFullFor begin tail (Other (Of name (Do op))) = NEW_WORK_END < begin
 IsFullFor begin tail (Other (Of name Commit)) = IsAtEnd tail
 IsFullFor begin tail (Other (Of name Abort)) = IsAtEnd tail
 IsFullFor begin tail (OfStore upkeeps.Checkpoint) = IsAtEnd begin
+IsFullFor begin tail (OfMarks name markings.Save) = NEW_WORK_END < begin
+IsFullFor begin tail (OfMarks name (markings.Back mark)) = IsAtEnd tail
 IsFullFor begin tail other = ⊥
 
 -- only lists take memory
@@ -58,11 +68,12 @@ IsCaused begin tail before now line OfDisk = HasRisen before now
 IsCaused begin tail before now line OfLog = IsFullFor begin tail line
 IsCaused begin tail before now line OfMemory = TakesMemory line
 
--- at the log's end a line stops the session that ends a transaction or makes a checkpoint, and no other
+-- at the log's end a line stops the session that ends a transaction, takes one back to a mark or makes a checkpoint, and no other
 abbrev pub stop_at_end : Option Stop → Line → Option Stop
 stop_at_end before (Other (Of name Commit)) = Some stops.LogEnd
 stop_at_end before (Other (Of name Abort)) = Some stops.LogEnd
 stop_at_end before (OfStore upkeeps.Checkpoint) = Some stops.LogEnd
+stop_at_end before (OfMarks name (markings.Back mark)) = Some stops.LogEnd
 stop_at_end before other = before
 
 -- why a session has stopped behind a line, if it has

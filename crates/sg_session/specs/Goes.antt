@@ -17,7 +17,7 @@ use Rattle.sg_store.specs.Room.{ShowsStock}
 use Rattle.sg_store.specs.Stock.{NeedsByStock}
 use Rattle.sg_session.specs.Lines.{Line, LineBy}
 use Rattle.sg_session.specs.Stocked.{LeadsOn}
-use Rattle.sg_session.specs.Lines.Line.{OfStore, Other}
+use Rattle.sg_session.specs.Lines.Line.{OfStore, OfMarks, Other}
 use Rattle.sg_session.specs.Causes.{Caused}
 use Rattle.sg_session.specs.Shows.{Core, Shows}
 
@@ -45,6 +45,7 @@ pub record Answers (t : Operations) (g : Ground) (v : View g) (x : Run) (line : 
 -- what a line is answered by a session that has stopped
 abbrev pub when_stopped : Line → Answer
 when_stopped (OfStore upkeep) = Stopped
+when_stopped (OfMarks name marking) = Stopped
 when_stopped (Other Blank) = Silent
 when_stopped (Other Wrong) = BadSyntax
 when_stopped (Other (Of name request)) = Stopped

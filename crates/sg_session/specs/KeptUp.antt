@@ -7,7 +7,7 @@ use Rattle.sg_words.specs.Requests.Request.{Begin, Commit, Abort, Do}
 use Rattle.sg_words.specs.declared.upkeep.Upkeep.TheVariants as upkeeps
 use Rattle.sg_store.specs.declared.engine.Engine.{Ghosts}
 use Rattle.sg_session.specs.Lines.{Line}
-use Rattle.sg_session.specs.Lines.Line.{OfStore, Other}
+use Rattle.sg_session.specs.Lines.Line.{OfStore, OfMarks, Other}
 
 module _ {E : Type 0} (ghosts : Ghosts E) where
   -- ALL IS HOME, and a log that ended with a checkpoint still does, in each image that a crash leaves now too
@@ -26,6 +26,7 @@ module _ {E : Type 0} (ghosts : Ghosts E) where
   IsKeptUp (OfStore upkeeps.Flush) e f = IsHome e f
   IsKeptUp (OfStore upkeeps.Checkpoint) e f = IsCheckpointed e f
   IsKeptUp (OfStore upkeeps.Truncate) e f = ⊤
+  IsKeptUp (OfMarks name marking) e f = ⊤
   IsKeptUp (Other line) e f = ⊤
 
 -- the name of the transaction that a line asks to commit, if it asks for that
@@ -39,6 +40,7 @@ name_committed (Of name (Do op)) = None
 
 abbrev pub committed_by : Line → Option (List ℕ)
 committed_by (OfStore upkeep) = None
+committed_by (OfMarks name marking) = None
 committed_by (Other line) = name_committed line
 
 -- behind a line that asks for a truncation this holds
@@ -46,4 +48,5 @@ abbrev pub IfTruncates : Line → Type 0 → Type 0
 IfTruncates (OfStore upkeeps.Flush) P = ⊤
 IfTruncates (OfStore upkeeps.Checkpoint) P = ⊤
 IfTruncates (OfStore upkeeps.Truncate) P = P
+IfTruncates (OfMarks name marking) P = ⊤
 IfTruncates (Other line) P = ⊤

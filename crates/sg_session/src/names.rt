@@ -7,13 +7,14 @@ ghost use Rattle.sg_run.specs.Run.{live_named};
 ghost use Rattle.sg_words.specs.Answered.{shown_answer};
 ghost use Rattle.sg_run.specs.Named.{answer_to, name_of};
 ghost use Rattle.sg_words.specs.Answers.Answer.{Busy};
-ghost use Rattle.sg_store.specs.Refusals.{said_refusal};
-ghost use Rattle.sg_session.specs.Names.{live_of, all_live, live_numbered, first_live, IsNamed};
-ghost use Rattle.sg_session.specs.Causes.{trouble_in, trouble_of};
+ghost use Rattle.sg_store.specs.Refusals.{said_refusal, said_why};
+ghost use Rattle.sg_session.specs.Lines.{answer_mark};
+ghost use Rattle.sg_session.specs.Names.{live_of, all_live, live_numbered, first_live, IsNamed, IsNamedAtMark};
+ghost use Rattle.sg_session.specs.Causes.{trouble_in, trouble_of, trouble_at_mark};
 ghost use Rattle.sg_session.specs.Causes.Trouble.{NoTrouble};
 
 use sg_base::{Name, OutOfMemory, TxnId};
-use sg_store::Refused;
+use sg_store::{MarkRefused, Refused};
 use sg_words::Answer;
 use std::alloc::Global;
 
@@ -152,6 +153,18 @@ impl Names {
             Refused::Memory => Answer::Memory,
             Refused::DiskFault => Answer::Disk,
             Refused::Stopped => Answer::Stopped,
+        }
+    }
+
+    /// What a call on marks that was refused is answered, in the words of a script.
+    pub fn answer_to_mark(&self, why: MarkRefused) -> Answer
+        ensures says { IsNamedAtMark (all_live self.now.all.items) why → (into : List ℕ) → shown_answer into result ≡ answer_mark (all_live self.now.all.items) (said_why why) }
+        ensures trouble { (into : List ℕ) → trouble_in (shown_answer into result) ≡ trouble_at_mark why }
+    {
+        match why {
+            MarkRefused::NoMark => Answer::NoMark,
+            MarkRefused::MarksFull => Answer::MarksFull,
+            MarkRefused::Store(why) => self.answer_to(why),
         }
     }
 }

@@ -16,8 +16,10 @@ use crate::names::Names;
 use sg_base::{Failed, Name, OutOfMemory, Sink};
 use sg_model::{Op, Reply, Stop};
 use sg_ops::Ops;
-use sg_store::{Lists, Objects, Refused, Store, Truncates};
-use sg_words::{Answer, Asked, Request, Upkeep, parse_request, parse_upkeep};
+use sg_store::{Lists, Marks, Objects, Refused, Store, Truncates};
+use sg_words::{
+    Answer, Asked, Marking, Request, Upkeep, parse_marking, parse_request, parse_upkeep,
+};
 use std::alloc::Global;
 
 // Why a store has stopped behind a call, if it has.
@@ -355,7 +357,110 @@ impl<E: Truncates> Session<E> {
     }
 }
 
-impl<E: Lists + Truncates> Session<E> {
+impl<E: Marks> Session<E> {
+    ghost use Rattle.sg_run.specs.Run.{Run};
+    ghost use Rattle.sg_words.specs.Requests.{asked};
+    ghost use Rattle.sg_words.specs.Requests.Asked.{Wrong};
+    ghost use Rattle.sg_words.specs.Upkeep.{upkeep_of};
+    ghost use Rattle.sg_store.specs.Ground.{IsLawful};
+    ghost use Rattle.sg_store.specs.Engine.{Keeps, KeepsBy, AsMeant, AsMeantBy};
+    ghost use Rattle.sg_store.specs.Heeds.{Heeds};
+    ghost use Rattle.sg_session.specs.Lines.{line_of};
+    ghost use Rattle.sg_session.specs.Lines.Line.{OfMarks};
+    ghost use Rattle.sg_session.specs.Shows.{Shows};
+    ghost use Rattle.sg_session.specs.Causes.{Caused};
+    ghost use Rattle.sg_session.specs.Goes.{Goes, when_stopped};
+    ghost use Rattle.sg_session.specs.Seen.{session_core, Serves, IsServed};
+
+    // A mark of the transaction with this name is set.
+    fn save(&mut self, name: Name) -> Answer
+        requires running { self.old.store.stop ≡ None }
+        requires serves { IsServed self.old }
+        ensures caused { (into : List ℕ) → Caused (E.view self.old.store.engine) (E.view self.new.store.engine) self.old.store.stop self.new.store.stop (OfMarks name Marking.Save) (shown_answer into result) }
+        ensures told { (E.view self.new.store.engine).Told → (E.view self.old.store.engine).Told }
+        ensures heeds { Heeds self.old.store.stop self.new.store.stop (E.view self.old.store.engine) (E.view self.new.store.engine) }
+        ensures means { Keeps (E.view self.old.store.engine) (E.view self.new.store.engine) }
+        ensures goes { (into : List ℕ) → AsMeant (E.view self.old.store.engine) (E.view self.new.store.engine) (λ t g v w.
+            (x : Run) → IsLawful t g → Shows t g v (session_core self.old) x
+            → Goes t g v x (OfMarks name Marking.Save) (shown_answer into result) w (session_core self.new)) }
+    {
+        let Some(named) = self.names.named(name) else {
+            return Answer::NoTransaction;
+        };
+        match self.store.save(named.txn) {
+            Ok(mark) => Answer::Said(Reply::Number(u64::from(mark))),
+            Err(why) => self.names.answer_to_mark(why),
+        }
+    }
+
+    // The transaction with this name goes back to its mark with this number.
+    fn back(&mut self, ops: &Ops, name: Name, mark: u16) -> Answer
+        requires running { self.old.store.stop ≡ None }
+        requires serves { Serves (table_of record_meaning range_meaning ops.now) self.old }
+        ensures caused { (into : List ℕ) → Caused (E.view self.old.store.engine) (E.view self.new.store.engine) self.old.store.stop self.new.store.stop (OfMarks name (Marking.Back mark)) (shown_answer into result) }
+        ensures told { (E.view self.new.store.engine).Told → (E.view self.old.store.engine).Told }
+        ensures heeds { Heeds self.old.store.stop self.new.store.stop (E.view self.old.store.engine) (E.view self.new.store.engine) }
+        ensures means { KeepsBy (table_of record_meaning range_meaning ops.now) (E.view self.old.store.engine) (E.view self.new.store.engine) }
+        ensures goes { let t = table_of record_meaning range_meaning ops.now in
+            (into : List ℕ) → AsMeantBy t (E.view self.old.store.engine) (E.view self.new.store.engine) (λ g v w.
+            (x : Run) → IsLawful t g → Shows t g v (session_core self.old) x
+            → Goes t g v x (OfMarks name (Marking.Back mark)) (shown_answer into result) w (session_core self.new)) }
+    {
+        let Some(named) = self.names.named(name) else {
+            return Answer::NoTransaction;
+        };
+        match self.store.rollback_to(ops, named.txn, mark) {
+            Ok(()) => Answer::Said(Reply::Done),
+            Err(why) => self.names.answer_to_mark(why),
+        }
+    }
+
+    // What is asked of the marks of the transaction with this name is done.
+    fn mark(&mut self, ops: &Ops, name: Name, marking: Marking) -> Answer
+        requires running { self.old.store.stop ≡ None }
+        requires serves { Serves (table_of record_meaning range_meaning ops.now) self.old }
+        ensures caused { (into : List ℕ) → Caused (E.view self.old.store.engine) (E.view self.new.store.engine) self.old.store.stop self.new.store.stop (OfMarks name marking) (shown_answer into result) }
+        ensures told { (E.view self.new.store.engine).Told → (E.view self.old.store.engine).Told }
+        ensures heeds { Heeds self.old.store.stop self.new.store.stop (E.view self.old.store.engine) (E.view self.new.store.engine) }
+        ensures means { KeepsBy (table_of record_meaning range_meaning ops.now) (E.view self.old.store.engine) (E.view self.new.store.engine) }
+        ensures goes { let t = table_of record_meaning range_meaning ops.now in
+            (into : List ℕ) → AsMeantBy t (E.view self.old.store.engine) (E.view self.new.store.engine) (λ g v w.
+            (x : Run) → IsLawful t g → Shows t g v (session_core self.old) x
+            → Goes t g v x (OfMarks name marking) (shown_answer into result) w (session_core self.new)) }
+    {
+        match marking {
+            Marking::Save => self.save(name),
+            Marking::Back(mark) => self.back(ops, name, mark),
+        }
+    }
+
+    // Executes a line that asks for something of a transaction's marks, or for nothing that is known.
+    fn execute_marking(&mut self, ops: &Ops, text: &[u8]) -> Answer
+        requires wrong { asked text.now ≡ Wrong }
+        requires no_upkeep { upkeep_of text.now ≡ None }
+        requires serves { Serves (table_of record_meaning range_meaning ops.now) self.old }
+        ensures stopped { IsSome self.old.store.stop → self.new ≡ self.old }
+        ensures still { IsSome self.old.store.stop → (into : List ℕ) → shown_answer into result ≡ when_stopped (line_of text.now) }
+        ensures caused { (into : List ℕ) → Caused (E.view self.old.store.engine) (E.view self.new.store.engine) self.old.store.stop self.new.store.stop (line_of text.now) (shown_answer into result) }
+        ensures told { (E.view self.new.store.engine).Told → (E.view self.old.store.engine).Told }
+        ensures heeds { Heeds self.old.store.stop self.new.store.stop (E.view self.old.store.engine) (E.view self.new.store.engine) }
+        ensures means { KeepsBy (table_of record_meaning range_meaning ops.now) (E.view self.old.store.engine) (E.view self.new.store.engine) }
+        ensures goes { let t = table_of record_meaning range_meaning ops.now in
+            (into : List ℕ) → AsMeantBy t (E.view self.old.store.engine) (E.view self.new.store.engine) (λ g v w.
+            (x : Run) → IsLawful t g → Shows t g v (session_core self.old) x
+            → Goes t g v x (line_of text.now) (shown_answer into result) w (session_core self.new)) }
+    {
+        let Some(asked) = parse_marking(text) else {
+            return Answer::BadSyntax;
+        };
+        if self.store.stop().is_some() {
+            return Answer::Stopped;
+        }
+        self.mark(ops, asked.0, asked.1)
+    }
+}
+
+impl<E: Lists + Truncates + Marks> Session<E> {
     ghost use Rattle.sg_run.specs.Run.{Run};
     ghost use Rattle.sg_store.specs.Ground.{IsLawful};
     ghost use Rattle.sg_store.specs.Engine.{Keeps, KeepsBy, AsMeant, AsMeantBy};
@@ -441,7 +546,7 @@ impl<E: Lists + Truncates> Session<E> {
             Asked::Blank => Answered::Line(Answer::Silent),
             Asked::Wrong => {
                 let Some(upkeep) = parse_upkeep(text) else {
-                    return Answered::Line(Answer::BadSyntax);
+                    return Answered::Line(self.execute_marking(ops, text));
                 };
                 if self.store.stop().is_some() {
                     return Answered::Line(Answer::Stopped);

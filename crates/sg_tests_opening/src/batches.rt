@@ -12,6 +12,7 @@ use std::alloc::Global;
 use std::marker::Brand;
 use std::sync::ledger::{Blank, Ledger};
 use std::test::Fail;
+use std::thread::Threads;
 
 // A transaction begins.
 const BEGIN: [u8; 21] = [
@@ -142,15 +143,16 @@ fn count_rotated(engine: &mut Engine<MemDisk>, pages: u32, first: u64) -> u32 {
 }
 
 // A store whose pages were filled and went home, with that log.
-fn filled<L: Ledger>(
-    rt: &HostRuntime,
+fn filled<R: Threads + Sync, L: Ledger>(
+    rt: &R,
+    alloc: Global,
     ops: &Ops,
     text: &[u8],
     steps: &mut Steps<L>,
 ) -> Result<MemDisk, Stop> {
-    let mut disk = store(rt.alloc())?;
+    let mut disk = store(alloc)?;
     spoil(&mut disk, Area::Log0, 0, text)?;
-    match open_engine(rt, rt.alloc(), disk, ops, steps) {
+    match open_engine(rt, alloc, disk, ops, steps) {
         Ok(
             Started {
                 geometry: _,
@@ -170,19 +172,30 @@ fn filled<L: Ledger>(
 }
 
 // How many pages of a torn batch of so many are rotated once behind an opening.
-fn rotated<L: Ledger>(rt: &HostRuntime, pages: u32, blank: Blank) -> Result<u32, Stop>
+fn rotated<R: Threads + Sync, L: Ledger>(
+    rt: &R,
+    alloc: Global,
+    pages: u32,
+    blank: Blank,
+) -> Result<u32, Stop>
     requires name { blank.name ≡ L.name }
     requires parts { blank.parts ≡ L.parts }
     requires some { 0 < L.parts }
 {
     let mut steps = Steps::<L>::open(blank);
-    let ops = Ops::shipped(rt.alloc())?;
-    let (script, first) = fill_and_rotate(rt.alloc(), pages)?;
+    let ops = Ops::shipped(alloc)?;
+    let (script, first) = fill_and_rotate(alloc, pages)?;
     let text: &[u8] = &script.text;
-    let mut disk = filled(rt, &ops, text.get(..first).unwrap_or(&[]), &mut steps)?;
+    let mut disk = filled(
+        rt,
+        alloc,
+        &ops,
+        text.get(..first).unwrap_or(&[]),
+        &mut steps,
+    )?;
     tear(&mut disk, pages)?;
     spoil(&mut disk, Area::Log0, 0, text)?;
-    match open_engine(rt, rt.alloc(), disk, &ops, &mut steps) {
+    match open_engine(rt, alloc, disk, &ops, &mut steps) {
         Ok(
             Started {
                 geometry: _,
@@ -201,7 +214,10 @@ fn rotated<L: Ledger>(rt: &HostRuntime, pages: u32, blank: Blank) -> Result<u32,
 #[test]
 fn a_torn_batch_is_laid_over_and_a_rotate_is_done_once(rt: HostRuntime) -> Result<(), Fail> {
     for pages in [1, 2, 26] {
-        assert_eq!(rt; rotated::<Brand>(&rt, pages, Blank::new(1)), Ok(pages));
+        assert_eq!(rt;
+            rotated::<_, Brand>(&rt, rt.alloc(), pages, Blank::new(1)),
+            Ok(pages)
+        );
     }
     Ok(())
 }

@@ -1,16 +1,24 @@
 // Stores in memory, as the tests make, spoil and open them. These calls promise nothing: a test that makes
 // them sees plain values.
+ghost use Rattle.std.specs.Prelude.{◌≡◌, ◌<◌};
+
+use sg_base::Steps;
 use sg_disk::{Area, Call, Disk, Failed, MemDisk};
+use sg_engine::EngineFault;
 use sg_find::OpenFault;
 use sg_making::{Geometry, InitFault, init_store};
-use sg_ops::OpsError;
+use sg_ops::{Ops, OpsError};
+use sg_reopen::{Started, Unopened, open_engine};
 use std::alloc::{AllocError, Global};
+use std::sync::ledger::{Blank, Ledger};
+use std::thread::Threads;
 
 // Why a call of a test stops.
 #[derive(Clone, Copy, Debug, PartialEq, Eq)]
 pub enum Stop {
     Init(InitFault),
     Open(OpenFault),
+    Engine(EngineFault),
     Disk,
     Memory,
     Far,
@@ -31,6 +39,12 @@ impl From<Failed> for Stop {
 impl From<InitFault> for Stop {
     fn from(fault: InitFault) -> Stop {
         Stop::Init(fault)
+    }
+}
+
+impl From<EngineFault> for Stop {
+    fn from(fault: EngineFault) -> Stop {
+        Stop::Engine(fault)
     }
 }
 
@@ -85,4 +99,49 @@ pub fn writes(disk: &MemDisk) -> u32 {
         }
     }
     count
+}
+
+// Why a store isn't opened, and how many calls but syncs changed the disk until then.
+#[derive(Clone, Copy, Debug, PartialEq, Eq)]
+pub struct Refused {
+    pub fault: OpenFault,
+    pub writes: u32,
+}
+
+impl Refused {
+    // A refusal before the first write.
+    pub fn unwritten(fault: OpenFault) -> Refused {
+        Refused { fault, writes: 0 }
+    }
+}
+
+// Opens a disk without a past, with the operations that are shipped: whether it is refused.
+pub fn try_open<R: Threads + Sync, L: Ledger>(
+    rt: &R,
+    alloc: Global,
+    disk: MemDisk,
+    blank: Blank,
+) -> Result<Option<Refused>, Stop>
+    requires name { blank.name ≡ L.name }
+    requires parts { blank.parts ≡ L.parts }
+    requires some { 0 < L.parts }
+{
+    let mut steps = Steps::<L>::open(blank);
+    let ops = Ops::shipped(alloc)?;
+    match open_engine(rt, alloc, disk, &ops, &mut steps) {
+        Ok(
+            Started {
+                geometry: _,
+                engine,
+                analysis: _,
+            },
+        ) => {
+            let _disk = engine.into_disk();
+            Ok(None)
+        }
+        Err(Unopened { disk, fault }) => {
+            let writes = writes(&disk);
+            Ok(Some(Refused { fault, writes }))
+        }
+    }
 }

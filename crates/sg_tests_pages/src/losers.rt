@@ -1,7 +1,7 @@
 // A transaction that a crash interrupts, and that is undone over the store that was opened again.
 ghost use Rattle.std.specs.Prelude.{◌≡◌, ◌<◌};
 
-use crate::stores::{Stop, Trial, named};
+use crate::stores::{Host, Stop, Trial, named};
 use sg_base::{Steps, TxnId};
 use sg_disk::MemDisk;
 use sg_model::Op;
@@ -62,8 +62,8 @@ fn undo(trial: &mut Trial, txn: TxnId) -> Result<([[u8; 4]; 4], bool), Stop> {
 }
 
 // What a crash leaves of the store in which the item was rotated, and the item then.
-fn interrupted<L: Ledger>(
-    rt: &HostRuntime,
+fn interrupted<R: Host, L: Ledger>(
+    rt: &R,
     pick: u64,
     steps: &mut Steps<L>,
 ) -> Result<(MemDisk, [u8; 4]), Stop> {
@@ -76,7 +76,7 @@ fn interrupted<L: Ledger>(
 }
 
 // What undoing comes to over such a store, and the item once that is opened again, where no transaction goes on.
-fn undone<L: Ledger>(rt: &HostRuntime, pick: u64, blank: Blank) -> Result<[[u8; 4]; 6], Stop>
+fn undone<R: Host, L: Ledger>(rt: &R, pick: u64, blank: Blank) -> Result<[[u8; 4]; 6], Stop>
     requires name { blank.name ≡ L.name }
     requires parts { blank.parts ≡ L.parts }
     requires some { 0 < L.parts }
@@ -101,7 +101,7 @@ fn undone<L: Ledger>(rt: &HostRuntime, pick: u64, blank: Blank) -> Result<[[u8; 
 fn three_rotates_of_a_loser_are_undone(rt: HostRuntime) -> Result<(), Fail> {
     let want = [*b"zwxy", *b"zwxy", *b"yzwx", *b"xyzw", *b"wxyz", *b"wxyz"];
     for pick in 0..4u64 {
-        assert_eq!(rt; undone::<Brand>(&rt, pick, Blank::new(1)), Ok(want));
+        assert_eq!(rt; undone::<_, Brand>(&rt, pick, Blank::new(1)), Ok(want));
     }
     Ok(())
 }

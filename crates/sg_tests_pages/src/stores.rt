@@ -20,6 +20,12 @@ use sg_reopen::Unopened;
 use sg_space::{SpaceFault, UndoNote};
 use std::alloc::{AllocError, Global};
 use std::sync::ledger::Ledger;
+use std::thread::Threads;
+
+/// The runtime that a test is given, with threads for openings, and memory.
+pub trait Host: Threads + Sync + Alloc<A = Global> {}
+
+impl<R: Threads + Sync + Alloc<A = Global>> Host for R {}
 
 // Why a call of a test stops.
 #[derive(Clone, Copy, Debug, PartialEq, Eq)]
@@ -153,8 +159,8 @@ fn rows_of(alloc: Global, first: Row) -> Result<Vec<Row>, AllocError>
 type Engine = Phys<Quiet<MemDisk>>;
 
 // The engine over a disk, and what its log says.
-fn opened<L: Ledger>(
-    rt: &HostRuntime,
+fn opened<R: Host, L: Ledger>(
+    rt: &R,
     disk: MemDisk,
     ops: &Ops,
     steps: &mut Steps<L>,
@@ -201,7 +207,7 @@ fn loser_of(analysis: &Analysis) -> Row {
 
 impl Trial {
     // The empty store, opened.
-    pub fn new<L: Ledger>(rt: &HostRuntime, steps: &mut Steps<L>) -> Result<Trial, Stop> {
+    pub fn new<R: Host, L: Ledger>(rt: &R, steps: &mut Steps<L>) -> Result<Trial, Stop> {
         let disk = store(rt.alloc())?;
         let ops = Ops::shipped(rt.alloc())?;
         let maps = begun(rt.alloc())?;
@@ -213,8 +219,8 @@ impl Trial {
     }
 
     // A store that was opened again, of which every page counts as taken, and the transaction that goes on, or 0.
-    pub fn again<L: Ledger>(
-        rt: &HostRuntime,
+    pub fn again<R: Host, L: Ledger>(
+        rt: &R,
         disk: MemDisk,
         steps: &mut Steps<L>,
     ) -> Result<(Trial, TxnId), Stop> {

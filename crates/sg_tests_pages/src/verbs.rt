@@ -1,7 +1,7 @@
 // Verbs on the objects of a store, beside the same on objects in memory.
 ghost use Rattle.std.specs.Prelude.{◌≡◌, ◌<◌};
 
-use crate::stores::{Stop, Trial, named};
+use crate::stores::{Host, Stop, Trial, named};
 use sg_base::{Name, Steps, TxnId};
 use sg_model::{Op, Reason, Reply};
 use sg_objects::ObjFault;
@@ -193,8 +193,8 @@ fn first_wrong(
 }
 
 // The same in a new store.
-fn in_a_store<L: Ledger>(
-    rt: &HostRuntime,
+fn in_a_store<R: Host, L: Ledger>(
+    rt: &R,
     kind: Kind,
     count: u32,
     blank: Blank,
@@ -213,7 +213,7 @@ fn in_a_store<L: Ledger>(
 #[test]
 fn verbs_of_an_array(rt: HostRuntime) -> Result<(), Fail> {
     assert_eq!(rt;
-        in_a_store::<Brand>(&rt, Kind::Array, 400, Blank::new(1)),
+        in_a_store::<_, Brand>(&rt, Kind::Array, 400, Blank::new(1)),
         Ok(None)
     );
     Ok(())
@@ -222,7 +222,7 @@ fn verbs_of_an_array(rt: HostRuntime) -> Result<(), Fail> {
 #[test]
 fn verbs_of_a_table(rt: HostRuntime) -> Result<(), Fail> {
     assert_eq!(rt;
-        in_a_store::<Brand>(&rt, Kind::Table, 400, Blank::new(1)),
+        in_a_store::<_, Brand>(&rt, Kind::Table, 400, Blank::new(1)),
         Ok(None)
     );
     Ok(())
@@ -231,7 +231,7 @@ fn verbs_of_a_table(rt: HostRuntime) -> Result<(), Fail> {
 #[test]
 fn verbs_of_a_blob(rt: HostRuntime) -> Result<(), Fail> {
     assert_eq!(rt;
-        in_a_store::<Brand>(&rt, Kind::Blob, 400, Blank::new(1)),
+        in_a_store::<_, Brand>(&rt, Kind::Blob, 400, Blank::new(1)),
         Ok(None)
     );
     Ok(())
@@ -240,7 +240,7 @@ fn verbs_of_a_blob(rt: HostRuntime) -> Result<(), Fail> {
 #[test]
 fn verbs_of_the_catalogue(rt: HostRuntime) -> Result<(), Fail> {
     assert_eq!(rt;
-        in_a_store::<Brand>(&rt, Kind::Name, 300, Blank::new(1)),
+        in_a_store::<_, Brand>(&rt, Kind::Name, 300, Blank::new(1)),
         Ok(None)
     );
     Ok(())

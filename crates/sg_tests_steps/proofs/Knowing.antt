@@ -7,13 +7,16 @@ use Rattle.sg_array.proofs.Pushes.{per_page-most}
 use Rattle.sg_base.specs.Sheet.{Sheet}
 use Rattle.sg_blob.specs.Blob.{Blob}
 use Rattle.sg_blob.specs.Calls.{CanWriteAt, HasBandsFor}
+use Rattle.sg_bucket.specs.Bucket.{Bucket}
+use Rattle.sg_bucket.specs.Calls.{CanPutEntry}
+use Rattle.sg_bucket.specs.Division.{CanBranch}
 use Rattle.sg_catalog.specs.Calls.{CanAdd}
-use Rattle.sg_catalog.specs.Catalog.{Catalog}
+use Rattle.sg_catalog.specs.Catalog.{Catalog, IsCatalog}
 use Rattle.sg_hash.specs.Calls.{CanPut, HasFive}
 use Rattle.sg_hash.specs.Table.{HashTable}
 use Rattle.sg_list.specs.Items as lists
 use Rattle.sg_space.specs.Pages.{HasFree}
-use Rattle.sg_tests_steps.specs.Knows.{HasRoom, KnowsAdd, KnowsBands, KnowsItem, KnowsPlace, KnowsPush, KnowsPut}
+use Rattle.sg_tests_steps.specs.Knows.{HasRoom, KnowsAdd, KnowsBands, KnowsDivision, KnowsEntry, KnowsItem, KnowsPlace, KnowsPush, KnowsPut}
 use Rattle.sg_tests_steps.specs.Steps.{steps_view}
 use Rattle.sg_tests_steps.specs.declared.steps.StepSpace.{StepSpace}
 
@@ -56,13 +59,26 @@ can_add s h = record {
 pub has_five : (s : StepSpace) → HasRoom (steps_view s) 5 → HasFive (steps_view s)
 has_five s h = record { free = h.free; may_take = h.may_take }
 
+-- page 0 isn't free where the catalogue is there
+has_zero : (s : StepSpace) {c : Catalog} → IsCatalog (steps_view s).space.pages.at c → IsSome ((steps_view s).space.pages.at 0)
+has_zero s stands = let page = stands.raw.page 0 0 stands.raw.first in subst (λ (o : Option Sheet). IsSome o) (sym page.is) refl
+
+pub can_put_entry : (s : StepSpace) {b : Bucket} → KnowsEntry (steps_view s) b → CanPutEntry (steps_view s) b
+can_put_entry s h = record {
+  sound = h.sound;
+  add = record { free = h.room.free; may_take = h.room.may_take; may_fill = λ p own n le. le; zero = has_zero s h.stands };
+}
+
+pub can_branch : (s : StepSpace) {b : Bucket} → KnowsDivision (steps_view s) b → CanBranch (steps_view s) b
+can_branch s h = record { sound = h.sound; free = h.room.free; may_take = h.room.may_take; zero = has_zero s h.stands }
+
 pub can_put : (s : StepSpace) {key : List ℕ} {split : Bool} {t : HashTable} → KnowsPut (steps_view s) key split t → CanPut (steps_view s) key split t
 can_put s {key} {split} {t} h = record {
   free = h.room.free;
   free_split = λ yes new. (h.room_split yes new).free;
   may_take = h.room.may_take;
   may_grow = record { names = roomy s t.directory t.names; buckets = λ p own n le. le };
-  zero = let page = h.stands.raw.page 0 0 h.stands.raw.first in subst (λ (o : Option Sheet). IsSome o) (sym page.is) refl;
+  zero = has_zero s h.stands;
 }
 
 -- a list that has the bytes for one item more has a slot for it

@@ -4,6 +4,8 @@ use Rattle.sg_base.specs.Page.{bytes_of}
 use Rattle.sg_array.specs.Array.{Array}
 use Rattle.sg_base.specs.declared.page.TheConstants.{BAND_SIZE}
 use Rattle.sg_blob.specs.Blob.{Blob, IsBlob, OwnsBand}
+use Rattle.sg_bucket.specs.Bucket.{Bucket}
+use Rattle.sg_bucket.specs.Calls.{IsSound}
 use Rattle.sg_catalog.specs.Catalog.{Catalog, IsCatalog, rows, there}
 use Rattle.sg_hash.specs.Table.{HashTable, value_at}
 use Rattle.sg_space.specs.Memory.{space_of}
@@ -45,6 +47,20 @@ pub record KnowsPut (v : View) (key : List ℕ) (split : Bool) (t : HashTable) :
   pub stands : IsCatalog v.space.pages.at catalog
   pub room : HasRoom v 1
   pub room_split : split ≡ true → value_at t key ≡ None → HasRoom v 11
+
+-- An entry may be put into a bucket: a page is free. The catalogue is there, which begins in page 0.
+pub record KnowsEntry (v : View) (b : Bucket) : Type 0 where
+  pub sound : IsSound b
+  pub catalog : Catalog
+  pub stands : IsCatalog v.space.pages.at catalog
+  pub room : HasRoom v 1
+
+-- A bucket's entries may be divided: as many pages are free as it has.
+pub record KnowsDivision (v : View) (b : Bucket) : Type 0 where
+  pub sound : IsSound b
+  pub catalog : Catalog
+  pub stands : IsCatalog v.space.pages.at catalog
+  pub room : HasRoom v (length b.pages)
 
 -- the page of a list has the bytes for one item more
 pub record KnowsItem (item : List ℕ) (items : List (List ℕ)) : Type 0 where

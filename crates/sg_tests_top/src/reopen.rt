@@ -24,6 +24,21 @@ fn a_second_run_reads_what_the_first_left(rt: HostRuntime) {
     assert_eq!(rt; second_run_goes(&rt), Some(true));
 }
 
+// Whether a second run reads what the first committed behind a way back, and nothing of what it took back.
+fn run_behind_marks_goes(rt: &impl Host) -> Option<bool> {
+    let script = b"t begin\nt make array a 1\nt push a x\nt save\nt push a y\nt set a 0 z\n\
+        t back 1\nt push a w\nt commit\nt begin\nt save\nt set a 0 o\nt back 1\nt set a 1 p";
+    let replies = b"ok\nok\nok 0\nok 1\nok 1\nok\nok\nok 1\nok\nok\nok 1\nok\nok\nok\n";
+    let disk = done(rt, new_store(rt)?, script, replies)?;
+    let replies = b"ok\nok x\nok w\n";
+    Some(run_goes(rt, disk, LOOK, Status::Done, replies))
+}
+
+#[test]
+fn a_second_run_reads_nothing_that_was_taken_back(rt: HostRuntime) {
+    assert_eq!(rt; run_behind_marks_goes(&rt), Some(true));
+}
+
 // How a store is made of the sizes that one has where none are given, made again, and run over.
 fn made_by_words(rt: &impl Host) -> Option<[Status; 3]> {
     let first = run_in_pieces(rt, "init store", MemDisk::new(rt.alloc()), b"t begin", 8)?;

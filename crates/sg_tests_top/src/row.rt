@@ -3,7 +3,7 @@ use std::alloc::AllocError;
 use std::test::Fail;
 
 // Lines, and what a session over an empty disk answers them.
-const ROWS: [(&str, &str); 13] = [
+const ROWS: [(&str, &str); 18] = [
     // one transaction behind another
     (
         "t begin\nt make array a 3\nt push a abc\nt set a 0 xyz\nt commit\nu begin\nu get a 0\nu get a 1",
@@ -73,6 +73,38 @@ const ROWS: [(&str, &str); 13] = [
         "p begin\np make array a 2\np push a aa\np commit\nt begin\nu begin\nt drop a\nu get a 0\nt abort\nu get a 0\n\
          u drop a\nu make array a 1\nu push a x\nu abort\nv begin\nv get a 0",
         "ok\nok\nok 0\nok\nok\nok\nok\nbusy t\nok\nok aa\nok\nok\nok 0\nok\nok\nok aa\n",
+    ),
+    // what was done behind a mark is taken back, and a mark that isn't kept is refused
+    (
+        "t begin\nt make array a 1\nt push a 1\nt save\nt push a 2\nt back 1\nt len a\nt back 2",
+        "ok\nok\nok 0\nok 1\nok 1\nok\nok 1\nerror no-mark\n",
+    ),
+    // refusals of marks in their order: no number but one of a mark that is kept names one, and one stays that was gone back to
+    (
+        "t save\nt back 1\nt begin\nt back 1\nt back 0\nt back 17\nt back 18446744073709551615\n\
+         t back 18446744073709551616\nt back\nt save 1\nt back 1 2\nt back x\nflush save\nt save\nt back 1\nt back 01\n\
+         t commit\nt save",
+        "error no-transaction\nerror no-transaction\nok\nerror no-mark\nerror no-mark\nerror no-mark\nerror no-mark\n\
+         error syntax\nerror syntax\nerror syntax\nerror syntax\nerror syntax\nerror syntax\nok 1\nok\nok\n\
+         ok\nerror no-transaction\n",
+    ),
+    // going back forgets the marks above, and keeps what is held
+    (
+        "p begin\np make array a 1\np push a x\np commit\nt begin\nu begin\nt save\nt set a 0 y\nt save\nt set a 0 z\n\
+         t back 2\nt get a 0\nt save\nt back 1\nt get a 0\nt back 2\nu get a 0\nt save\nt commit\nu get a 0",
+        "ok\nok\nok 0\nok\nok\nok\nok 1\nok\nok 2\nok\nok\nok y\nok 3\nok\nok x\nerror no-mark\nbusy t\nok 2\nok\nok x\n",
+    ),
+    // what was dropped behind a mark is there again, what was made behind it is gone, and an abort takes back the rest
+    (
+        "t begin\nt make array a 1\nt push a q\nt save\nt drop a\nt make table a\nt put a k v\nt back 1\nt get a 0\n\
+         t make blob b\nt list\nt abort\nu begin\nu list",
+        "ok\nok\nok 0\nok 1\nok\nok\nok new\nok\nok q\nok\nok 2 a b\nok\nok\nok 0\n",
+    ),
+    // the marks of one transaction are none of another's
+    (
+        "p begin\np make array a 1\np push a x\np push a y\np commit\nt begin\nu begin\nt save\nu back 1\nu save\nu save\n\
+         t set a 0 b\nu set a 1 c\nt back 2\nt back 1\nu commit\nt commit\nv begin\nv get a 0\nv get a 1",
+        "ok\nok\nok 0\nok 1\nok\nok\nok\nok 1\nerror no-mark\nok 1\nok 2\nok\nok\nerror no-mark\nok\nok\nok\nok\nok x\nok c\n",
     ),
 ];
 
@@ -209,6 +241,36 @@ fn replies_to_many_locks(rt: &impl Host) -> Result<String, AllocError> {
 fn as_much_is_held_as_may_be(rt: HostRuntime) -> Result<(), Fail> {
     let lines = lines_of_many_locks(&rt)?;
     let replies = replies_to_many_locks(&rt)?;
+    assert!(rt; answers(&rt, &lines, &replies));
+    Ok(())
+}
+
+// A transaction that sets a mark more than it can have, and goes back to some of them.
+fn lines_of_many_marks(rt: &impl Host) -> Result<String, AllocError> {
+    let mut lines = String::new(rt.alloc());
+    lines.push_str("t begin\n")?;
+    push_times(&mut lines, 17, "t save\n")?;
+    lines.push_str("t back 16\nt save\nt back 15\nt save\nt save\nt back 1\nt save")?;
+    Ok(lines)
+}
+
+// What it is answered: the mark that it went back to is kept.
+fn replies_to_many_marks(rt: &impl Host) -> Result<String, AllocError> {
+    let mut replies = String::new(rt.alloc());
+    replies.push_str("ok\n")?;
+    for n in 1..17u32 {
+        replies.push_str(&format!(in rt.alloc(); "ok {n}\n")?)?;
+    }
+    replies.push_str(
+        "error marks-full\nok\nerror marks-full\nok\nok 16\nerror marks-full\nok\nok 2\n",
+    )?;
+    Ok(replies)
+}
+
+#[test]
+fn as_many_marks_are_kept_as_may_be(rt: HostRuntime) -> Result<(), Fail> {
+    let lines = lines_of_many_marks(&rt)?;
+    let replies = replies_to_many_marks(&rt)?;
     assert!(rt; answers(&rt, &lines, &replies));
     Ok(())
 }

@@ -26,7 +26,7 @@ fn is_text(alloc: Global, answer: &Answer, text: &[u8]) -> bool {
 }
 
 // How many of these answers there are.
-const ANSWERS: usize = 17;
+const ANSWERS: usize = 19;
 
 // An answer and its line, by number.
 fn answer(alloc: Global, name: Name, number: usize) -> (Answer, &'static [u8]) {
@@ -57,6 +57,8 @@ fn answer(alloc: Global, name: Name, number: usize) -> (Answer, &'static [u8]) {
             Answer::NoBands { free: 7, need: 500 },
             b"error no-bands 7 500\n",
         ),
+        16 => (Answer::NoMark, b"error no-mark\n"),
+        17 => (Answer::MarksFull, b"error marks-full\n"),
         _ => (Answer::Names(Vec::new(alloc)), b"ok 0\n"),
     }
 }

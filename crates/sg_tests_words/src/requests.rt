@@ -259,7 +259,7 @@ fn a_line_says_what_its_words_say(rt: HostRuntime) {
     assert_eq!(rt; first_of_parts(), None);
 }
 
-// Each verb takes its words.
+// Each verb takes its words. A line of marks or of the store as a whole has a reader of its own.
 const VERBS: [Row; 42] = [
     (b"", BLANK),
     (b"# t list", BLANK),

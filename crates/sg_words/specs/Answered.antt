@@ -6,7 +6,7 @@ use Rattle.sg_words.specs.declared.answer.Answer as code
 use Rattle.sg_words.specs.declared.answer.Answer.TheVariants as answers
 use Rattle.sg_words.specs.Answers.{Answer}
 use Rattle.sg_words.specs.Text.{text_of_reason}
-use Rattle.sg_words.specs.Answers.Answer.{Silent, BadSyntax, Stopped, NoTransaction, IsLive, TooManyLive, Busy, LocksFull, Refused, NoSpace, NoBands, LogEnd, Memory, Disk, Said}
+use Rattle.sg_words.specs.Answers.Answer.{Silent, BadSyntax, Stopped, NoTransaction, IsLive, TooManyLive, NoMark, MarksFull, Busy, LocksFull, Refused, NoSpace, NoBands, LogEnd, Memory, Disk, Said}
 
 -- an answer, where the bytes of a reply stand at the front of a buffer
 abbrev pub shown_answer : List ℕ → code.Answer → Answer
@@ -16,6 +16,8 @@ shown_answer into answers.Stopped = Stopped
 shown_answer into answers.NoTransaction = NoTransaction
 shown_answer into answers.IsLive = IsLive
 shown_answer into answers.TooManyLive = TooManyLive
+shown_answer into answers.NoMark = NoMark
+shown_answer into answers.MarksFull = MarksFull
 shown_answer into (answers.Busy name) = Busy name
 shown_answer into answers.LocksFull = LocksFull
 shown_answer into (answers.Refused reason) = Refused reason
@@ -36,6 +38,8 @@ line_of answers.Stopped = codes "error stopped\n"
 line_of answers.NoTransaction = codes "error no-transaction\n"
 line_of answers.IsLive = codes "error live\n"
 line_of answers.TooManyLive = codes "error too-many-live\n"
+line_of answers.NoMark = codes "error no-mark\n"
+line_of answers.MarksFull = codes "error marks-full\n"
 line_of (answers.Busy name) = []
 line_of answers.LocksFull = codes "error locks-full\n"
 line_of (answers.Refused reason) = text_of_reason reason

@@ -14,6 +14,8 @@ pub data Answer : Type 0 where
   NoTransaction : Answer
   IsLive : Answer
   TooManyLive : Answer
+  NoMark : Answer
+  MarksFull : Answer
   Busy : (name : List ℕ) → Answer
   LocksFull : Answer
   Refused : (reason : Reason) → Answer
@@ -49,6 +51,8 @@ text_of_answer Stopped = codes "error stopped\n"
 text_of_answer NoTransaction = codes "error no-transaction\n"
 text_of_answer IsLive = codes "error live\n"
 text_of_answer TooManyLive = codes "error too-many-live\n"
+text_of_answer NoMark = codes "error no-mark\n"
+text_of_answer MarksFull = codes "error marks-full\n"
 text_of_answer (Busy name) = codes "busy " ++ name ++ codes "\n"
 text_of_answer LocksFull = codes "error locks-full\n"
 text_of_answer (Refused reason) = text_of_reason reason

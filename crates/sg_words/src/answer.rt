@@ -24,6 +24,10 @@ pub enum Answer {
     IsLive,
     /// As many transactions are live as may be.
     TooManyLive,
+    /// The transaction has no such mark.
+    NoMark,
+    /// The transaction has as many marks as it may.
+    MarksFull,
     /// This transaction holds something that the line would touch in conflict.
     Busy(Name),
     /// With what the line touches more would be held than may be.
@@ -58,6 +62,8 @@ fn line_of(answer: &Answer) -> &'static [u8]
         Answer::NoTransaction => b"error no-transaction\n",
         Answer::IsLive => b"error live\n",
         Answer::TooManyLive => b"error too-many-live\n",
+        Answer::NoMark => b"error no-mark\n",
+        Answer::MarksFull => b"error marks-full\n",
         Answer::LocksFull => b"error locks-full\n",
         Answer::Refused(reason) => reason_text(*reason),
         Answer::LogEnd => b"error log-end\n",

@@ -10,7 +10,7 @@ use Rattle.sg_commands.proofs.Written.{shut_writes, heeded, opened_writes}
 use Rattle.sg_commands.proofs.top.objects_behind_fuse.Goals as goal
 
 pub open-requires-clause-presumed : goal.open-requires-clause-presumed
-open-requires-clause-presumed g c ls lf =
+open-requires-clause-presumed g c =
     subst (λ (v : disk.View). IsPresumed g.E.Engine.basis g.E.Opens.says (table_of (λ z. (goal.RecordOp-dyn g z).record_meaning z.1)
     (λ z. (goal.RangeOp-dyn g z).range_meaning z.1) c.args.ops.now) g.D.Disk.told g.O.Presumes.presumed v) (sym c.marked-fuse.ensures.view) c.requires.presumed
 

@@ -16,7 +16,7 @@ pub returns-in_default-clause-run : goal.returns-in_default-clause-run
 returns-in_default-clause-run g c = inl (never_began g.E.Engine.basis g.E.Opens.says _ g.D.Disk.told g.O.Presumes.presumed _)
 
 pub open-requires-clause-presumed : goal.open-requires-clause-presumed
-open-requires-clause-presumed g c ls lf =
+open-requires-clause-presumed g c =
     subst (λ (v : disk.View). IsPresumed g.E.Engine.basis g.E.Opens.says (table_of (λ z. (goal.RecordOp-dyn g z).record_meaning z.1)
     (λ z. (goal.RangeOp-dyn g z).range_meaning z.1) c.args.ops.now) g.D.Disk.told g.O.Presumes.presumed v) (sym c.marked-fuse.ensures.view) c.requires.presumed
 

@@ -5,7 +5,7 @@ use Rattle.sg_core.specs.Live.{number_of}
 use Rattle.sg_model.specs.SaidOps.{said_op}
 use Rattle.sg_model.specs.Verb.Op.{On, Names}
 use Rattle.sg_model.specs.Verb.Verb.{Keys}
-use Rattle.sg_words.specs.Requests.Asked.{Blank, Wrong, Of}
+use Rattle.sg_words.specs.Requests.Asked.{Blank, Of}
 use Rattle.sg_words.specs.Requests.Request.{Begin, Commit, Abort, Do}
 use Rattle.sg_words.specs.Requested.{shown}
 use Rattle.sg_words.specs.declared.request.Request as code_request
@@ -27,18 +27,16 @@ returns-in-Blank-clause-goes g c z from m told x lawful shows =
     (steps.silent _ (g.E.Engine.basis z) (led _ z from (g.E.Engine.view c.args.self.now.store.engine)) x (session_core c.args.self.now) shows)
 
 pub returns-in_default-clause-goes : goal.returns-in_default-clause-goes
-returns-in_default-clause-goes g c z from m told x lawful shows =
-    answering.goes_line _ (g.E.Engine.basis z) lawful (led _ z from (g.E.Engine.view c.args.self.now.store.engine)) x _ _ _ _ _ (answering.line_is c.args.text.now Wrong _ (sym c.in-Wrong.ensures.asked) (sym c.in_default.ensures))
-    (steps.bad_syntax _ (g.E.Engine.basis z) (led _ z from (g.E.Engine.view c.args.self.now.store.engine)) x (session_core c.args.self.now) shows)
+returns-in_default-clause-goes g c z from m told x lawful shows = c.execute_marking.ensures.goes c.args.into.now z from m told x lawful shows
 
 pub returns-then-is_some-clause-goes : goal.returns-then-is_some-clause-goes
 returns-then-is_some-clause-goes g c z from m told x lawful shows =
-    answering.goes_line _ (g.E.Engine.basis z) lawful (led _ z from (g.E.Engine.view c.args.self.now.store.engine)) x _ _ _ _ _ (answering.line_is c.args.text.now Wrong _ (sym c.in-Wrong.ensures.asked) (sym c.in-Some.ensures))
+    answering.goes_line _ (g.E.Engine.basis z) lawful (led _ z from (g.E.Engine.view c.args.self.now.store.engine)) x _ _ _ _ _ (answering.is_upkeep c.args.text.now c.in-Some.upkeep (sym c.in-Wrong.ensures.asked) (sym c.in-Some.ensures))
     (steps.upkeep_stopped _ (g.E.Engine.basis z) (led _ z from (g.E.Engine.view c.args.self.now.store.engine)) x (session_core c.args.self.now) shows c.in-Some.upkeep (ap is_some (sym c.stop.ensures) ∙ (sym c.is_some.ensures ∙ c.if-is_some.true)))
 
 pub returns-else-is_some-clause-goes : goal.returns-else-is_some-clause-goes
 returns-else-is_some-clause-goes g c z from m told x lawful shows =
-    answering.goes_line _ (g.E.Engine.basis z) lawful (led _ z from (g.E.Engine.view c.args.self.now.store.engine)) x _ _ _ _ _ (answering.line_is c.args.text.now Wrong _ (sym c.in-Wrong.ensures.asked) (sym c.in-Some.ensures))
+    answering.goes_line _ (g.E.Engine.basis z) lawful (led _ z from (g.E.Engine.view c.args.self.now.store.engine)) x _ _ _ _ _ (answering.is_upkeep c.args.text.now c.in-Some.upkeep (sym c.in-Wrong.ensures.asked) (sym c.in-Some.ensures))
     (c.keep_up.ensures.goes c.args.into.now _ z from m told x lawful shows)
 
 pub returns-then-is_some-2-clause-goes : goal.returns-then-is_some-2-clause-goes
@@ -80,10 +78,10 @@ pub returns-in-Blank-clause-still : goal.returns-in-Blank-clause-still
 returns-in-Blank-clause-still g c some = ap when_stopped (answering.is_blank c.args.text.now (sym c.in-Blank.ensures.asked))
 
 pub returns-in_default-clause-still : goal.returns-in_default-clause-still
-returns-in_default-clause-still g c some = ap when_stopped (answering.line_is c.args.text.now Wrong _ (sym c.in-Wrong.ensures.asked) (sym c.in_default.ensures))
+returns-in_default-clause-still g c some = c.execute_marking.ensures.still some c.args.into.now
 
 pub returns-then-is_some-clause-still : goal.returns-then-is_some-clause-still
-returns-then-is_some-clause-still g c some = ap when_stopped (answering.line_is c.args.text.now Wrong _ (sym c.in-Wrong.ensures.asked) (sym c.in-Some.ensures))
+returns-then-is_some-clause-still g c some = ap when_stopped (answering.is_upkeep c.args.text.now c.in-Some.upkeep (sym c.in-Wrong.ensures.asked) (sym c.in-Some.ensures))
 
 pub returns-then-is_some-2-clause-still : goal.returns-then-is_some-2-clause-still
 returns-then-is_some-2-clause-still g c some = ap when_stopped (answering.is_of c.args.text.now c.in-Of.name _ (sym c.in-Of.ensures.asked))
@@ -114,15 +112,14 @@ returns-in-Blank-clause-caused g c = causing.at_line _ _ c.args.self.now.store.s
     (causing.well _ _ c.args.self.now.store.stop _ (Other Blank) _ refl refl)
 
 pub returns-in_default-clause-caused : goal.returns-in_default-clause-caused
-returns-in_default-clause-caused g c = causing.at_line _ _ c.args.self.now.store.stop _ (Other Wrong) (line_of c.args.text.now) _ (answering.line_is c.args.text.now Wrong _ (sym c.in-Wrong.ensures.asked) (sym c.in_default.ensures))
-    (causing.well _ _ c.args.self.now.store.stop _ (Other Wrong) _ refl refl)
+returns-in_default-clause-caused g c = c.execute_marking.ensures.caused c.args.into.now
 
 pub returns-then-is_some-clause-caused : goal.returns-then-is_some-clause-caused
-returns-then-is_some-clause-caused g c = causing.at_line _ _ c.args.self.now.store.stop _ (OfStore c.in-Some.upkeep) (line_of c.args.text.now) _ (answering.line_is c.args.text.now Wrong _ (sym c.in-Wrong.ensures.asked) (sym c.in-Some.ensures))
+returns-then-is_some-clause-caused g c = causing.at_line _ _ c.args.self.now.store.stop _ (OfStore c.in-Some.upkeep) (line_of c.args.text.now) _ (answering.is_upkeep c.args.text.now c.in-Some.upkeep (sym c.in-Wrong.ensures.asked) (sym c.in-Some.ensures))
     (causing.well _ _ c.args.self.now.store.stop _ (OfStore c.in-Some.upkeep) _ refl refl)
 
 pub returns-else-is_some-clause-caused : goal.returns-else-is_some-clause-caused
-returns-else-is_some-clause-caused g c = causing.at_line _ _ c.args.self.now.store.stop _ (OfStore c.in-Some.upkeep) (line_of c.args.text.now) _ (answering.line_is c.args.text.now Wrong _ (sym c.in-Wrong.ensures.asked) (sym c.in-Some.ensures))
+returns-else-is_some-clause-caused g c = causing.at_line _ _ c.args.self.now.store.stop _ (OfStore c.in-Some.upkeep) (line_of c.args.text.now) _ (answering.is_upkeep c.args.text.now c.in-Some.upkeep (sym c.in-Wrong.ensures.asked) (sym c.in-Some.ensures))
     (c.keep_up.ensures.caused c.args.into.now)
 
 pub returns-then-is_some-2-clause-caused : goal.returns-then-is_some-2-clause-caused
@@ -157,7 +154,7 @@ pub returns-in-Blank-clause-kept_up : goal.returns-in-Blank-clause-kept_up
 returns-in-Blank-clause-kept_up g c none = answering.other_kept g.E.Engine _ _ _ _ (answering.is_blank c.args.text.now (sym c.in-Blank.ensures.asked))
 
 pub returns-in_default-clause-kept_up : goal.returns-in_default-clause-kept_up
-returns-in_default-clause-kept_up g c none = answering.other_kept g.E.Engine _ _ _ _ (answering.line_is c.args.text.now Wrong _ (sym c.in-Wrong.ensures.asked) (sym c.in_default.ensures))
+returns-in_default-clause-kept_up g c none = answering.marking_kept g.E.Engine _ _ _ _ (answering.by_marking c.args.text.now _ (sym c.in-Wrong.ensures.asked) (sym c.in_default.ensures) refl)
 
 pub returns-then-is_some-2-clause-kept_up : goal.returns-then-is_some-2-clause-kept_up
 returns-then-is_some-2-clause-kept_up g c none = answering.other_kept g.E.Engine _ _ _ _ (answering.is_of c.args.text.now c.in-Of.name _ (sym c.in-Of.ensures.asked))
@@ -184,13 +181,13 @@ pub returns-then-is_some-clause-kept_up : goal.returns-then-is_some-clause-kept_
 returns-then-is_some-clause-kept_up g c none = heeding.not_stopped c.args.self.now.store.stop (ap is_some none) (ap is_some (sym c.stop.ensures) ∙ (sym c.is_some.ensures ∙ c.if-is_some.true))
 
 pub returns-else-is_some-clause-kept_up : goal.returns-else-is_some-clause-kept_up
-returns-else-is_some-clause-kept_up g c none = subst (λ (l : Line). IsKeptUp g.E.Engine l c.args.self.now.store.engine c.keep_up.new.self.store.engine) (answering.line_is c.args.text.now Wrong _ (sym c.in-Wrong.ensures.asked) (sym c.in-Some.ensures)) (c.keep_up.ensures.kept_up none)
+returns-else-is_some-clause-kept_up g c none = subst (λ (l : Line). IsKeptUp g.E.Engine l c.args.self.now.store.engine c.keep_up.new.self.store.engine) (answering.is_upkeep c.args.text.now c.in-Some.upkeep (sym c.in-Wrong.ensures.asked) (sym c.in-Some.ensures)) (c.keep_up.ensures.kept_up none)
 
 pub returns-in-Blank-clause-cuts : goal.returns-in-Blank-clause-cuts
 returns-in-Blank-clause-cuts g c none = answering.other_cuts _ _ _ (answering.is_blank c.args.text.now (sym c.in-Blank.ensures.asked))
 
 pub returns-in_default-clause-cuts : goal.returns-in_default-clause-cuts
-returns-in_default-clause-cuts g c none = answering.other_cuts _ _ _ (answering.line_is c.args.text.now Wrong _ (sym c.in-Wrong.ensures.asked) (sym c.in_default.ensures))
+returns-in_default-clause-cuts g c none = answering.marking_cuts _ _ _ (answering.by_marking c.args.text.now _ (sym c.in-Wrong.ensures.asked) (sym c.in_default.ensures) refl)
 
 pub returns-then-is_some-2-clause-cuts : goal.returns-then-is_some-2-clause-cuts
 returns-then-is_some-2-clause-cuts g c none = answering.other_cuts _ _ _ (answering.is_of c.args.text.now c.in-Of.name _ (sym c.in-Of.ensures.asked))
@@ -223,13 +220,13 @@ returns-else-is_some-clause-cuts g c none =
     subst
     (λ (l : Line). IfTruncates l ((g.E.Engine.view old.engine).Told → IsCut (g.E.Engine.unwritten old.engine) (option_map number_of (slice_get old.txns 0)) (g.E.Truncates.last_checkpoint old.engine) (g.E.Truncates.is_spent old.engine)
     (g.E.Engine.view old.engine).start (g.E.Engine.view new.engine).start (g.E.Truncates.first_frame_end new.engine)))
-    (answering.line_is c.args.text.now Wrong _ (sym c.in-Wrong.ensures.asked) (sym c.in-Some.ensures)) (c.keep_up.ensures.cuts none)
+    (answering.is_upkeep c.args.text.now c.in-Some.upkeep (sym c.in-Wrong.ensures.asked) (sym c.in-Some.ensures)) (c.keep_up.ensures.cuts none)
 
 pub returns-in-Blank-clause-hands : goal.returns-in-Blank-clause-hands
 returns-in-Blank-clause-hands g c none = answering.no_commit _ _ _ refl (answering.is_blank c.args.text.now (sym c.in-Blank.ensures.asked))
 
 pub returns-in_default-clause-hands : goal.returns-in_default-clause-hands
-returns-in_default-clause-hands g c none = answering.no_commit _ _ _ refl (answering.line_is c.args.text.now Wrong _ (sym c.in-Wrong.ensures.asked) (sym c.in_default.ensures))
+returns-in_default-clause-hands g c none = answering.marking_no_commit _ _ _ (answering.by_marking c.args.text.now _ (sym c.in-Wrong.ensures.asked) (sym c.in_default.ensures) refl)
 
 pub returns-then-is_some-2-clause-hands : goal.returns-then-is_some-2-clause-hands
 returns-then-is_some-2-clause-hands g c none = heeding.not_stopped c.args.self.now.store.stop (ap is_some none) (ap is_some (sym c.stop-in-Of.ensures) ∙ (sym c.is_some-in-Of.ensures ∙ c.if-is_some-2.true))
@@ -256,4 +253,4 @@ pub returns-then-is_some-clause-hands : goal.returns-then-is_some-clause-hands
 returns-then-is_some-clause-hands g c none = heeding.not_stopped c.args.self.now.store.stop (ap is_some none) (ap is_some (sym c.stop.ensures) ∙ (sym c.is_some.ensures ∙ c.if-is_some.true))
 
 pub returns-else-is_some-clause-hands : goal.returns-else-is_some-clause-hands
-returns-else-is_some-clause-hands g c none = answering.no_commit _ _ _ refl (answering.line_is c.args.text.now Wrong _ (sym c.in-Wrong.ensures.asked) (sym c.in-Some.ensures))
+returns-else-is_some-clause-hands g c none = answering.no_commit _ _ _ refl (answering.is_upkeep c.args.text.now c.in-Some.upkeep (sym c.in-Wrong.ensures.asked) (sym c.in-Some.ensures))

@@ -1,5 +1,5 @@
 use Rattle.sg_commands.proofs.OverPages.{is_opened, stays_shut}
-use Rattle.sg_commands.proofs.stores.PagedPhysOpens.open.Goals as goal
+use Rattle.sg_commands.proofs.stores.open_pages.Goals as goal
 
 pub returns-in-Ok-clause-opens : goal.returns-in-Ok-clause-opens
 returns-in-Ok-clause-opens g c = is_opened _ g.D.Disk.told g.D.Presumed.presumed _ _ _ c.in-Ok.ensures.opened
