@@ -2,20 +2,20 @@
 //! number of turns, and a count says how often one was seen. They change nothing. By them tests see that records are repeated at once, in threads,
 //! of which no clause speaks.
 //!
-//! It stands on `sg_ops`, in which they are registered. Tests alone stand on it.
+//! It stands on `sg_ops`, in which a test registers them. Tests alone stand on it.
 #![tactic(auto)]
 
 ghost use Rattle.std.specs.Prelude.{true, refl};
 
-use sg_ops::{Ops, RecordOp};
+use sg_ops::RecordOp;
 use std::alloc::{AllocError, Global};
 use std::sync::Arc;
 use std::sync::atomic::{AtomicU64, Ordering};
 
-// Sets its own flag and then looks for the other's, for so many turns; a count says how often one
-// was seen. It changes nothing.
+/// Sets its own flag and then looks for the other's, for so many turns; a count says how often one
+/// was seen. It changes nothing.
 #[derive(Drop)]
-struct Meeting {
+pub struct Meeting {
     code: u16,
     mine: Arc<AtomicU64, Global>,
     other: Arc<AtomicU64, Global>,
@@ -72,13 +72,13 @@ impl Flags {
         })
     }
 
-    // Sets the left one and looks for the right one.
-    fn first(&self) -> Result<Meeting, AllocError> {
+    /// The operation 7, which sets the left one and looks for the right one.
+    pub fn first(&self) -> Result<Meeting, AllocError> {
         meeting_of(7, &self.left, &self.right, &self.seen)
     }
 
-    // The other way round.
-    fn second(&self) -> Result<Meeting, AllocError> {
+    /// The operation 8, the other way round.
+    pub fn second(&self) -> Result<Meeting, AllocError> {
         meeting_of(8, &self.right, &self.left, &self.seen)
     }
 
@@ -106,15 +106,4 @@ fn meeting_of(
         other: Arc::try_clone(other)?,
         seen: Arc::try_clone(seen)?,
     })
-}
-
-fn is_taken(alloc: Global, ops: &mut Ops, meeting: Meeting) -> Result<bool, AllocError> {
-    Ok(ops.register_record(Box::new(alloc, meeting)?).is_ok())
-}
-
-/// Registers both operations, and says whether they are taken.
-pub fn are_taken(alloc: Global, ops: &mut Ops, flags: &Flags) -> Result<bool, AllocError> {
-    let is_first = is_taken(alloc, ops, flags.first()?)?;
-    let is_second = is_taken(alloc, ops, flags.second()?)?;
-    Ok(is_first && is_second)
 }

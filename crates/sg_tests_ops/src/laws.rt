@@ -1,5 +1,5 @@
 use sg_laws::{Change, are_accepted, redo_all, redo_and_undo, redo_in_turn};
-use sg_meeting::{Flags, are_taken};
+use sg_meeting::{Flags, Meeting};
 use sg_ops::Ops;
 use std::alloc::{AllocError, Global};
 use std::test::Fail;
@@ -11,6 +11,17 @@ fn change(alloc: Global, item: u8, code: u16, arg: u8) -> Result<Change, AllocEr
         code,
         arg: vec![in alloc; arg]?,
     })
+}
+
+fn is_taken(alloc: Global, ops: &mut Ops, meeting: Meeting) -> Result<bool, Fail> {
+    Ok(ops.register_record(Box::new(alloc, meeting)?).is_ok())
+}
+
+// Whether both operations are taken.
+pub fn are_taken(alloc: Global, ops: &mut Ops, flags: &Flags) -> Result<bool, Fail> {
+    let is_first = is_taken(alloc, ops, flags.first()?)?;
+    let is_second = is_taken(alloc, ops, flags.second()?)?;
+    Ok(is_first && is_second)
 }
 
 // Changes of an item of one byte, by a code, with an argument of one byte.

@@ -4,9 +4,10 @@ ghost use Rattle.sg_frames.specs.declared.place.Place.TheVariants.{Page};
 ghost use Rattle.sg_frames.specs.Held.{IsHere, NoneLent};
 ghost use Rattle.sg_redo.specs.Units.{Lies, lent_at};
 
+use crate::laws::are_taken;
 use sg_base::{PAGE_SIZE, PageOp, Steps};
 use sg_frames::{Frames, Loan};
-use sg_meeting::{Flags, are_taken};
+use sg_meeting::Flags;
 use sg_ops::Ops;
 use sg_redo::{Place, Unit, apply_page, are_known, replay_all};
 use sg_segment::Dirty;

@@ -1,7 +1,7 @@
 // An opening repeats records on several pages at once: two operations that wait for one another see each other.
 use crate::trial::{Host, Left, copy_of, new_store, run_with};
 use sg_disk::MemDisk;
-use sg_meeting::{Flags, are_taken};
+use sg_meeting::{Flags, Meeting};
 use sg_ops::Ops;
 use sg_top::Status;
 
@@ -18,10 +18,20 @@ const REPLIES: &[u8] =
 // More calls of the disk than a run of it makes.
 const MOST_CALLS: u64 = 1_000;
 
+fn is_taken(rt: &impl Host, ops: &mut Ops, meeting: Meeting) -> bool {
+    match Box::new(rt.alloc(), meeting) {
+        Ok(meeting) => ops.register_record(meeting).is_ok(),
+        Err(_) => false,
+    }
+}
+
 // The shipped operations and the two.
 fn ops_with(rt: &impl Host, flags: &Flags) -> Option<Ops> {
     if let Ok(mut ops) = Ops::shipped(rt.alloc())
-        && let Ok(true) = are_taken(rt.alloc(), &mut ops, flags)
+        && let Ok(first) = flags.first()
+        && let Ok(second) = flags.second()
+        && is_taken(rt, &mut ops, first)
+        && is_taken(rt, &mut ops, second)
     {
         Some(ops)
     } else {
