@@ -339,19 +339,39 @@ fn run(pair: &mut Pair, count: u32) -> Result<(), Fail> {
     Ok(())
 }
 
+// What the steps came to: how many were answered otherwise, faults of the space, how many verbs changed something and were undone, and whether
+// as many pages and bands are free as at first.
+#[derive(Clone, Copy)]
+struct Sums {
+    wrong: u32,
+    faults: u64,
+    changed: u32,
+    undone: u32,
+    is_free_again: bool,
+}
+
+fn came_to(alloc: Global) -> Result<Sums, Fail> {
+    let mut pair = Pair::new(alloc)?;
+    let (pages, bands) = (pair.space.free_pages(), pair.space.free_bands());
+    run(&mut pair, 12_000)?;
+    pair.drop_all()?;
+    Ok(Sums {
+        wrong: pair.wrong,
+        faults: pair.space.faults(),
+        changed: pair.changed,
+        undone: pair.undone,
+        is_free_again: pair.space.free_pages() == pages && pair.space.free_bands() == bands,
+    })
+}
+
 // 12,000 steps, of which 15 in 16 are verbs: each answers as objects in memory do, is refused where they refuse it, and touches what it
 // touches of them. Once all is dropped and freed as many pages and bands are free as at first.
 #[test]
 fn drawn_verbs_are_those_of_objects_in_memory(rt: HostRuntime) -> Result<(), Fail> {
-    let mut pair = Pair::new(rt.alloc())?;
-    let (pages, bands) = (pair.space.free_pages(), pair.space.free_bands());
-    run(&mut pair, 12_000)?;
-    pair.drop_all()?;
-    assert_eq!(rt; pair.wrong, 0);
-    assert_eq!(rt; pair.space.faults(), 0);
-    assert_eq!(rt; pair.changed >= 2_000, true);
-    assert_eq!(rt; pair.undone >= 1_000, true);
-    assert_eq!(rt; pair.space.free_pages(), pages);
-    assert_eq!(rt; pair.space.free_bands(), bands);
+    let came = came_to(rt.alloc())?;
+    assert_eq!(rt; (came.wrong, came.faults), (0, 0));
+    assert!(rt; came.changed >= 2_000);
+    assert!(rt; came.undone >= 1_000);
+    assert!(rt; came.is_free_again);
     Ok(())
 }
