@@ -1,5 +1,5 @@
 use Rattle.sg_tests_pages.proofs.Silent.{no}
 use Rattle.sg_tests_pages.proofs.stores.opened.Goals as goal
 
-pub attach-requires : goal.attach-requires
-attach-requires g c = record { found = λ told presumed s accepted. absurd (no told) }
+pub attach-requires-clause-found : goal.attach-requires-clause-found
+attach-requires-clause-found g c ls lf told presumed s accepted = absurd (no told)
