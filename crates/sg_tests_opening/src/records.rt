@@ -20,11 +20,12 @@ type Row = (&'static [Made], Option<u64>);
 // Adds a frame of this record.
 fn put(text: &mut Vec<u8>, record: Made) -> Result<(), AllocError> {
     let (kind, transaction, previous, fields) = record;
-    let size = 21u32.wrapping_add(fields.len() as u32).to_le_bytes();
+    let size = (fields.len() as u64).wrapping_add(21).to_le_bytes();
+    let size = &size[..4];
     text.push(1)?;
-    text.extend_from_slice(&size)?;
+    text.extend_from_slice(size)?;
     text.push(kind)?;
-    text.extend_from_slice(&size)?;
+    text.extend_from_slice(size)?;
     text.extend_from_slice(&transaction.to_le_bytes())?;
     text.extend_from_slice(&previous.to_le_bytes())?;
     text.extend_from_slice(fields)
