@@ -297,13 +297,13 @@ all_taken : (xs : List ℕ) → take (length xs) xs ≡ xs
 all_taken [] = refl
 all_taken (x ∷ xs) = ap (λ ys. x ∷ ys) (all_taken xs)
 
-left_long : (n : ℕ) (xs : List ℕ) → length (drop n xs) ≡ length xs - n
+pub left_long : (n : ℕ) (xs : List ℕ) → length (drop n xs) ≡ length xs - n
 left_long zero xs = omega arith
 left_long (suc n) [] = omega arith
 left_long (suc n) (x ∷ xs) = let rest = left_long n xs in omega (arith, rest)
 
 -- a range to the end
-to_end : (n : ℕ) (xs : List ℕ) → take (length xs - n) (drop n xs) ≡ drop n xs
+pub to_end : (n : ℕ) (xs : List ℕ) → take (length xs - n) (drop n xs) ≡ drop n xs
 to_end n xs = ap (λ (m : ℕ). take m (drop n xs)) (sym (left_long n xs)) ∙ all_taken (drop n xs)
 
 abbrev pub behind_of : List ℕ → List ℕ

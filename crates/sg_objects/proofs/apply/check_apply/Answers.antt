@@ -7,6 +7,8 @@ use Rattle.sg_objects.proofs.Located.{still_contents, array_at}
 use Rattle.sg_objects.proofs.Refused.{missing_array}
 use Rattle.sg_objects.proofs.Pushing.{items_of}
 use Rattle.sg_objects.proofs.Applying.{checked_ok, checked_err, can_apply_to, refuse_apply, long_apply, past_apply, unnamed_apply, above_codes, unregistered, declined_apply}
+use Rattle.std.proofs.lemmas.Result.{err_from_is_err_and}
+use Rattle.sg_objects.proofs.Counting.{went, went_then, counts_ok, counts_then, counts_err, no_ok}
 use Rattle.sg_objects.proofs.apply.check_apply.Goals as goal
 
 pub returns-in-Err-clause-read : goal.returns-in-Err-clause-read
@@ -66,3 +68,213 @@ returns-then-not-accepts-clause-later g c = λ t. g.met.P.PageSpace.later_then t
 
 pub returns-else-not-accepts-clause-later : goal.returns-else-not-accepts-clause-later
 returns-else-not-accepts-clause-later g c = λ t. g.met.P.PageSpace.later_then t _ _ _ (c.array_of.ensures.later t) (c.get.ensures.later t)
+
+-- how often it failed
+pub returns-in_err-reason-clause-counts : goal.returns-in_err-reason-clause-counts
+returns-in_err-reason-clause-counts g c =
+    let p = err_from_is_err_and c.from_residual.result c.from_residual.ensures.1 in
+    counts_err c.from_residual.result _ p.0 p.1 p.2 (c.in_err-reason.ensures.counts)
+
+pub returns-in-Err-clause-counts : goal.returns-in-Err-clause-counts
+returns-in-Err-clause-counts g c = counts_ok _ (went c.in_ok-reason.ensures.counts)
+
+pub returns-then-arg-gt256-clause-counts : goal.returns-then-arg-gt256-clause-counts
+returns-then-arg-gt256-clause-counts g c = counts_ok _ (went c.in_ok-reason.ensures.counts)
+
+pub returns-then-index-found-clause-counts : goal.returns-then-index-found-clause-counts
+returns-then-index-found-clause-counts g c = counts_ok _ (went c.in_ok-reason.ensures.counts)
+
+pub returns-then-code-gt65535-clause-counts : goal.returns-then-code-gt65535-clause-counts
+returns-then-code-gt65535-clause-counts g c = counts_ok _ (went c.in_ok-reason.ensures.counts)
+
+pub returns-then-not-has_record-clause-counts : goal.returns-then-not-has_record-clause-counts
+returns-then-not-has_record-clause-counts g c = counts_ok _ (went c.in_ok-reason.ensures.counts)
+
+pub returns-in_err-get-in-Ok-clause-counts : goal.returns-in_err-get-in-Ok-clause-counts
+returns-in_err-get-in-Ok-clause-counts g c =
+    let p = err_from_is_err_and c.from_residual-in_err-get-in-Ok.result c.from_residual-in_err-get-in-Ok.ensures.1 in
+    counts_err c.from_residual-in_err-get-in-Ok.result _ p.0 p.1 p.2 (counts_then (went c.in_ok-reason.ensures.counts) c.in_err-get-in-Ok.ensures.counts)
+
+pub returns-then-not-accepts-clause-counts : goal.returns-then-not-accepts-clause-counts
+returns-then-not-accepts-clause-counts g c = counts_ok _ (went_then (went c.in_ok-reason.ensures.counts) (went c.in_ok-get-in-Ok.ensures.counts))
+
+pub returns-else-not-accepts-clause-counts : goal.returns-else-not-accepts-clause-counts
+returns-else-not-accepts-clause-counts g c = counts_ok _ (went_then (went c.in_ok-reason.ensures.counts) (went c.in_ok-get-in-Ok.ensures.counts))
+
+-- its records can still be read
+pub returns-in_err-reason-clause-means : goal.returns-in_err-reason-clause-means
+returns-in_err-reason-clause-means g c = c.array_of.ensures.means
+
+pub returns-in_err-reason-clause-later : goal.returns-in_err-reason-clause-later
+returns-in_err-reason-clause-later g c = c.array_of.ensures.later
+
+pub returns-in-Err-clause-means : goal.returns-in-Err-clause-means
+returns-in-Err-clause-means g c = c.array_of.ensures.means
+
+pub returns-in-Err-clause-later : goal.returns-in-Err-clause-later
+returns-in-Err-clause-later g c = c.array_of.ensures.later
+
+pub returns-then-arg-gt256-clause-means : goal.returns-then-arg-gt256-clause-means
+returns-then-arg-gt256-clause-means g c = c.array_of.ensures.means
+
+pub returns-then-arg-gt256-clause-later : goal.returns-then-arg-gt256-clause-later
+returns-then-arg-gt256-clause-later g c = c.array_of.ensures.later
+
+pub returns-then-index-found-clause-means : goal.returns-then-index-found-clause-means
+returns-then-index-found-clause-means g c = c.array_of.ensures.means
+
+pub returns-then-index-found-clause-later : goal.returns-then-index-found-clause-later
+returns-then-index-found-clause-later g c = c.array_of.ensures.later
+
+pub returns-then-code-gt65535-clause-means : goal.returns-then-code-gt65535-clause-means
+returns-then-code-gt65535-clause-means g c = c.array_of.ensures.means
+
+pub returns-then-code-gt65535-clause-later : goal.returns-then-code-gt65535-clause-later
+returns-then-code-gt65535-clause-later g c = c.array_of.ensures.later
+
+pub returns-then-not-has_record-clause-means : goal.returns-then-not-has_record-clause-means
+returns-then-not-has_record-clause-means g c = c.array_of.ensures.means
+
+pub returns-then-not-has_record-clause-later : goal.returns-then-not-has_record-clause-later
+returns-then-not-has_record-clause-later g c = c.array_of.ensures.later
+
+pub returns-in_err-get-in-Ok-clause-means : goal.returns-in_err-get-in-Ok-clause-means
+returns-in_err-get-in-Ok-clause-means g c = λ t m. c.get.ensures.means t (c.array_of.ensures.means t m)
+
+pub returns-then-not-accepts-clause-means : goal.returns-then-not-accepts-clause-means
+returns-then-not-accepts-clause-means g c = λ t m. c.get.ensures.means t (c.array_of.ensures.means t m)
+
+pub returns-else-not-accepts-clause-means : goal.returns-else-not-accepts-clause-means
+returns-else-not-accepts-clause-means g c = λ t m. c.get.ensures.means t (c.array_of.ensures.means t m)
+
+-- and it wrote none
+pub returns-in-Err-clause-writes : goal.returns-in-Err-clause-writes
+returns-in-Err-clause-writes g c = record { only_disk = tt; records = c.array_of.ensures.writes.records }
+
+pub returns-in-Err-clause-kept : goal.returns-in-Err-clause-kept
+returns-in-Err-clause-kept g c = c.in_ok-reason.ensures.kept
+
+pub returns-then-arg-gt256-clause-writes : goal.returns-then-arg-gt256-clause-writes
+returns-then-arg-gt256-clause-writes g c = record { only_disk = tt; records = c.array_of.ensures.writes.records }
+
+pub returns-then-arg-gt256-clause-kept : goal.returns-then-arg-gt256-clause-kept
+returns-then-arg-gt256-clause-kept g c = c.in_ok-reason.ensures.kept
+
+pub returns-then-index-found-clause-writes : goal.returns-then-index-found-clause-writes
+returns-then-index-found-clause-writes g c = record { only_disk = tt; records = c.array_of.ensures.writes.records }
+
+pub returns-then-index-found-clause-kept : goal.returns-then-index-found-clause-kept
+returns-then-index-found-clause-kept g c = c.in_ok-reason.ensures.kept
+
+pub returns-then-code-gt65535-clause-writes : goal.returns-then-code-gt65535-clause-writes
+returns-then-code-gt65535-clause-writes g c = record { only_disk = tt; records = c.array_of.ensures.writes.records }
+
+pub returns-then-code-gt65535-clause-kept : goal.returns-then-code-gt65535-clause-kept
+returns-then-code-gt65535-clause-kept g c = c.in_ok-reason.ensures.kept
+
+pub returns-then-not-has_record-clause-writes : goal.returns-then-not-has_record-clause-writes
+returns-then-not-has_record-clause-writes g c = record { only_disk = tt; records = c.array_of.ensures.writes.records }
+
+pub returns-then-not-has_record-clause-kept : goal.returns-then-not-has_record-clause-kept
+returns-then-not-has_record-clause-kept g c = c.in_ok-reason.ensures.kept
+
+pub returns-then-not-accepts-clause-writes : goal.returns-then-not-accepts-clause-writes
+returns-then-not-accepts-clause-writes g c = record { only_disk = tt; records = c.get.ensures.writes.records ∙ c.array_of.ensures.writes.records }
+
+pub returns-else-not-accepts-clause-writes : goal.returns-else-not-accepts-clause-writes
+returns-else-not-accepts-clause-writes g c = record { only_disk = tt; records = c.get.ensures.writes.records ∙ c.array_of.ensures.writes.records }
+
+-- nothing is said of an array where there is none
+pub returns-in-Err-clause-below : goal.returns-in-Err-clause-below
+returns-in-Err-clause-below g c = tt
+
+pub returns-in-Err-clause-short : goal.returns-in-Err-clause-short
+returns-in-Err-clause-short g c = tt
+
+pub returns-in-Err-clause-code : goal.returns-in-Err-clause-code
+returns-in-Err-clause-code g c = tt
+
+pub returns-then-arg-gt256-clause-below : goal.returns-then-arg-gt256-clause-below
+returns-then-arg-gt256-clause-below g c = tt
+
+pub returns-then-arg-gt256-clause-short : goal.returns-then-arg-gt256-clause-short
+returns-then-arg-gt256-clause-short g c = tt
+
+pub returns-then-arg-gt256-clause-code : goal.returns-then-arg-gt256-clause-code
+returns-then-arg-gt256-clause-code g c = tt
+
+pub returns-then-index-found-clause-below : goal.returns-then-index-found-clause-below
+returns-then-index-found-clause-below g c = tt
+
+pub returns-then-index-found-clause-short : goal.returns-then-index-found-clause-short
+returns-then-index-found-clause-short g c = tt
+
+pub returns-then-index-found-clause-code : goal.returns-then-index-found-clause-code
+returns-then-index-found-clause-code g c = tt
+
+pub returns-then-code-gt65535-clause-below : goal.returns-then-code-gt65535-clause-below
+returns-then-code-gt65535-clause-below g c = tt
+
+pub returns-then-code-gt65535-clause-short : goal.returns-then-code-gt65535-clause-short
+returns-then-code-gt65535-clause-short g c = tt
+
+pub returns-then-code-gt65535-clause-code : goal.returns-then-code-gt65535-clause-code
+returns-then-code-gt65535-clause-code g c = tt
+
+pub returns-then-not-has_record-clause-below : goal.returns-then-not-has_record-clause-below
+returns-then-not-has_record-clause-below g c = tt
+
+pub returns-then-not-has_record-clause-short : goal.returns-then-not-has_record-clause-short
+returns-then-not-has_record-clause-short g c = tt
+
+pub returns-then-not-has_record-clause-code : goal.returns-then-not-has_record-clause-code
+returns-then-not-has_record-clause-code g c = tt
+
+pub returns-then-not-accepts-clause-below : goal.returns-then-not-accepts-clause-below
+returns-then-not-accepts-clause-below g c = tt
+
+pub returns-then-not-accepts-clause-short : goal.returns-then-not-accepts-clause-short
+returns-then-not-accepts-clause-short g c = tt
+
+pub returns-then-not-accepts-clause-code : goal.returns-then-not-accepts-clause-code
+returns-then-not-accepts-clause-code g c = tt
+
+pub returns-in_err-reason-clause-read : goal.returns-in_err-reason-clause-read
+returns-in_err-reason-clause-read g c =
+    let p = err_from_is_err_and c.from_residual.result c.from_residual.ensures.1 in
+    no_ok _ c.from_residual.result p.0 p.1
+
+pub returns-in_err-reason-clause-below : goal.returns-in_err-reason-clause-below
+returns-in_err-reason-clause-below g c =
+    let p = err_from_is_err_and c.from_residual.result c.from_residual.ensures.1 in
+    no_ok _ c.from_residual.result p.0 p.1
+
+pub returns-in_err-reason-clause-short : goal.returns-in_err-reason-clause-short
+returns-in_err-reason-clause-short g c =
+    let p = err_from_is_err_and c.from_residual.result c.from_residual.ensures.1 in
+    no_ok _ c.from_residual.result p.0 p.1
+
+pub returns-in_err-reason-clause-code : goal.returns-in_err-reason-clause-code
+returns-in_err-reason-clause-code g c =
+    let p = err_from_is_err_and c.from_residual.result c.from_residual.ensures.1 in
+    no_ok _ c.from_residual.result p.0 p.1
+
+pub returns-in_err-get-in-Ok-clause-read : goal.returns-in_err-get-in-Ok-clause-read
+returns-in_err-get-in-Ok-clause-read g c =
+    let p = err_from_is_err_and c.from_residual-in_err-get-in-Ok.result c.from_residual-in_err-get-in-Ok.ensures.1 in
+    no_ok _ c.from_residual-in_err-get-in-Ok.result p.0 p.1
+
+pub returns-in_err-get-in-Ok-clause-below : goal.returns-in_err-get-in-Ok-clause-below
+returns-in_err-get-in-Ok-clause-below g c =
+    let p = err_from_is_err_and c.from_residual-in_err-get-in-Ok.result c.from_residual-in_err-get-in-Ok.ensures.1 in
+    no_ok _ c.from_residual-in_err-get-in-Ok.result p.0 p.1
+
+pub returns-in_err-get-in-Ok-clause-short : goal.returns-in_err-get-in-Ok-clause-short
+returns-in_err-get-in-Ok-clause-short g c =
+    let p = err_from_is_err_and c.from_residual-in_err-get-in-Ok.result c.from_residual-in_err-get-in-Ok.ensures.1 in
+    no_ok _ c.from_residual-in_err-get-in-Ok.result p.0 p.1
+
+pub returns-in_err-get-in-Ok-clause-code : goal.returns-in_err-get-in-Ok-clause-code
+returns-in_err-get-in-Ok-clause-code g c =
+    let p = err_from_is_err_and c.from_residual-in_err-get-in-Ok.result c.from_residual-in_err-get-in-Ok.ensures.1 in
+    no_ok _ c.from_residual-in_err-get-in-Ok.result p.0 p.1

@@ -7,6 +7,8 @@ use Rattle.sg_objects.proofs.Located.{still_contents, array_at}
 use Rattle.sg_objects.proofs.Doing.{refused_did}
 use Rattle.sg_objects.proofs.Others.{can_pop, pop_done}
 use Rattle.sg_objects.proofs.Bodies.{from_start}
+use Rattle.std.proofs.lemmas.Result.{err_from_is_err_and}
+use Rattle.sg_objects.proofs.Counting.{went, went_then, counts_ok, counts_then, counts_err, no_ok, few_none, few_from}
 use Rattle.sg_objects.proofs.array.pop.Goals as goal
 
 pub returns-in-Err-clause-did : goal.returns-in-Err-clause-did
@@ -52,3 +54,77 @@ returns-in_err-pop-in-Ok-clause-later g c = let then = g.met.P.PageSpace.later_t
 
 pub returns-in_ok-pop-in-Ok-clause-later : goal.returns-in_ok-pop-in-Ok-clause-later
 returns-in_ok-pop-in-Ok-clause-later g c = let then = g.met.P.PageSpace.later_then _ in then _ _ _ (c.check_pop.ensures.later _) c.pop.ensures.later
+
+-- how often it failed
+pub returns-in_err-reason-clause-counts : goal.returns-in_err-reason-clause-counts
+returns-in_err-reason-clause-counts g c =
+    let p = err_from_is_err_and c.from_residual.result c.from_residual.ensures.1 in
+    counts_err c.from_residual.result _ p.0 p.1 p.2 (c.in_err-reason.ensures.counts)
+
+pub returns-in-Err-clause-counts : goal.returns-in-Err-clause-counts
+returns-in-Err-clause-counts g c = counts_ok _ (went c.in_ok-reason.ensures.counts)
+
+pub returns-in_err-pop-in-Ok-clause-counts : goal.returns-in_err-pop-in-Ok-clause-counts
+returns-in_err-pop-in-Ok-clause-counts g c =
+    let p = err_from_is_err_and c.from_residual-in_err-pop-in-Ok.result c.from_residual-in_err-pop-in-Ok.ensures.1 in
+    counts_err c.from_residual-in_err-pop-in-Ok.result _ p.0 p.1 p.2 (counts_then (went c.in_ok-reason.ensures.counts) c.in_err-pop-in-Ok.ensures.counts)
+
+pub returns-in_ok-pop-in-Ok-clause-counts : goal.returns-in_ok-pop-in-Ok-clause-counts
+returns-in_ok-pop-in-Ok-clause-counts g c = counts_ok _ (went_then (went c.in_ok-reason.ensures.counts) (went c.in_ok-pop-in-Ok.ensures.counts))
+
+-- its records can still be read
+pub returns-in_err-reason-clause-means : goal.returns-in_err-reason-clause-means
+returns-in_err-reason-clause-means g c = c.check_pop.ensures.means _ c.requires.means
+
+pub returns-in-Err-clause-means : goal.returns-in-Err-clause-means
+returns-in-Err-clause-means g c = c.check_pop.ensures.means _ c.requires.means
+
+pub returns-in_err-pop-in-Ok-clause-means : goal.returns-in_err-pop-in-Ok-clause-means
+returns-in_err-pop-in-Ok-clause-means g c = c.pop.ensures.means
+
+pub returns-in_ok-pop-in-Ok-clause-means : goal.returns-in_ok-pop-in-Ok-clause-means
+returns-in_ok-pop-in-Ok-clause-means g c = c.pop.ensures.means
+
+-- how many records it wrote
+pub returns-in_err-reason-clause-few : goal.returns-in_err-reason-clause-few
+returns-in_err-reason-clause-few g c = few_none (g.P.PageSpace.view c.args.space.now) (g.P.PageSpace.view c.check_pop.new.space) _ c.check_pop.ensures.writes.records
+
+pub returns-in-Err-clause-few : goal.returns-in-Err-clause-few
+returns-in-Err-clause-few g c = few_none (g.P.PageSpace.view c.args.space.now) (g.P.PageSpace.view c.check_pop.new.space) _ c.check_pop.ensures.writes.records
+
+pub returns-in_err-pop-in-Ok-clause-few : goal.returns-in_err-pop-in-Ok-clause-few
+returns-in_err-pop-in-Ok-clause-few g c = few_from (g.P.PageSpace.view c.args.space.now) (g.P.PageSpace.view c.check_pop.new.space) (g.P.PageSpace.view c.pop.new.space) _ c.check_pop.ensures.writes.records c.pop.ensures.few
+
+pub returns-in_ok-pop-in-Ok-clause-few : goal.returns-in_ok-pop-in-Ok-clause-few
+returns-in_ok-pop-in-Ok-clause-few g c = few_from (g.P.PageSpace.view c.args.space.now) (g.P.PageSpace.view c.check_pop.new.space) (g.P.PageSpace.view c.pop.new.space) _ c.check_pop.ensures.writes.records c.pop.ensures.few
+
+pub returns-in-Err-clause-quiet : goal.returns-in-Err-clause-quiet
+returns-in-Err-clause-quiet g c = λ _. record { records = c.check_pop.ensures.writes.records; still = c.in_ok-reason.ensures.kept.still }
+
+-- nothing is said of a result where there is none
+pub returns-in_err-reason-clause-did : goal.returns-in_err-reason-clause-did
+returns-in_err-reason-clause-did g c =
+    let p = err_from_is_err_and c.from_residual.result c.from_residual.ensures.1 in
+    no_ok _ c.from_residual.result p.0 p.1
+
+pub returns-in_err-reason-clause-quiet : goal.returns-in_err-reason-clause-quiet
+returns-in_err-reason-clause-quiet g c =
+    let p = err_from_is_err_and c.from_residual.result c.from_residual.ensures.1 in
+    no_ok _ c.from_residual.result p.0 p.1
+
+pub returns-in_err-pop-in-Ok-clause-did : goal.returns-in_err-pop-in-Ok-clause-did
+returns-in_err-pop-in-Ok-clause-did g c =
+    let p = err_from_is_err_and c.from_residual-in_err-pop-in-Ok.result c.from_residual-in_err-pop-in-Ok.ensures.1 in
+    no_ok _ c.from_residual-in_err-pop-in-Ok.result p.0 p.1
+
+pub returns-in_err-pop-in-Ok-clause-quiet : goal.returns-in_err-pop-in-Ok-clause-quiet
+returns-in_err-pop-in-Ok-clause-quiet g c =
+    let p = err_from_is_err_and c.from_residual-in_err-pop-in-Ok.result c.from_residual-in_err-pop-in-Ok.ensures.1 in
+    no_ok _ c.from_residual-in_err-pop-in-Ok.result p.0 p.1
+
+-- and is the space later
+pub returns-in_err-reason-clause-later : goal.returns-in_err-reason-clause-later
+returns-in_err-reason-clause-later g c = c.check_pop.ensures.later _
+
+pub returns-in-Err-clause-later : goal.returns-in-Err-clause-later
+returns-in-Err-clause-later g c = c.check_pop.ensures.later _

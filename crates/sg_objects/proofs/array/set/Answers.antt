@@ -1,4 +1,4 @@
-use Rattle.std.proofs.Common.{◌≤◌, Result, subst, length, IfOk}
+use Rattle.std.proofs.Common.{◌∙◌, ◌≤◌, Result, subst, length, IfOk}
 use Rattle.sg_array.proofs.Links.{still_array}
 use Rattle.sg_model.specs.declared.reason.Reason.{Reason}
 use Rattle.sg_model.specs.Verb.Verb.{Set}
@@ -8,6 +8,8 @@ use Rattle.sg_objects.proofs.Located.{still_contents, array_at}
 use Rattle.sg_objects.proofs.Doing.{refused_did}
 use Rattle.sg_objects.proofs.Others.{can_read_old, can_set, set_done}
 use Rattle.sg_objects.proofs.Bodies.{from_start}
+use Rattle.std.proofs.lemmas.Result.{err_from_is_err_and}
+use Rattle.sg_objects.proofs.Counting.{went, went_then, counts_ok, counts_then, counts_err, no_ok, few_none, few_from}
 use Rattle.sg_objects.proofs.array.set.Goals as goal
 
 pub returns-in-Err-clause-did : goal.returns-in-Err-clause-did
@@ -63,3 +65,98 @@ returns-in_err-set-in-Ok-clause-later g c = let then = g.met.P.PageSpace.later_t
 
 pub returns-in_ok-set-in-Ok-clause-later : goal.returns-in_ok-set-in-Ok-clause-later
 returns-in_ok-set-in-Ok-clause-later g c = let then = g.met.P.PageSpace.later_then _ in then _ _ _ (c.check_set.ensures.later _) (then _ _ _ (c.get.ensures.later _) c.set-in-Ok.ensures.later)
+
+-- how often it failed
+pub returns-in_err-reason-clause-counts : goal.returns-in_err-reason-clause-counts
+returns-in_err-reason-clause-counts g c =
+    let p = err_from_is_err_and c.from_residual.result c.from_residual.ensures.1 in
+    counts_err c.from_residual.result _ p.0 p.1 p.2 (c.in_err-reason.ensures.counts)
+
+pub returns-in-Err-clause-counts : goal.returns-in-Err-clause-counts
+returns-in-Err-clause-counts g c = counts_ok _ (went c.in_ok-reason.ensures.counts)
+
+pub returns-in_err-get-in-Ok-clause-counts : goal.returns-in_err-get-in-Ok-clause-counts
+returns-in_err-get-in-Ok-clause-counts g c =
+    let p = err_from_is_err_and c.from_residual-in_err-get-in-Ok.result c.from_residual-in_err-get-in-Ok.ensures.1 in
+    counts_err c.from_residual-in_err-get-in-Ok.result _ p.0 p.1 p.2 (counts_then (went c.in_ok-reason.ensures.counts) c.in_err-get-in-Ok.ensures.counts)
+
+pub returns-in_err-set-in-Ok-clause-counts : goal.returns-in_err-set-in-Ok-clause-counts
+returns-in_err-set-in-Ok-clause-counts g c =
+    let p = err_from_is_err_and c.from_residual-in_err-set-in-Ok.result c.from_residual-in_err-set-in-Ok.ensures.1 in
+    counts_err c.from_residual-in_err-set-in-Ok.result _ p.0 p.1 p.2 (counts_then (went_then (went c.in_ok-reason.ensures.counts) (went c.in_ok-get-in-Ok.ensures.counts)) c.in_err-set-in-Ok.ensures.counts)
+
+pub returns-in_ok-set-in-Ok-clause-counts : goal.returns-in_ok-set-in-Ok-clause-counts
+returns-in_ok-set-in-Ok-clause-counts g c = counts_ok _ (went_then (went c.in_ok-reason.ensures.counts) (went_then (went c.in_ok-get-in-Ok.ensures.counts) (went c.in_ok-set-in-Ok.ensures.counts)))
+
+-- its records can still be read
+pub returns-in_err-reason-clause-means : goal.returns-in_err-reason-clause-means
+returns-in_err-reason-clause-means g c = c.check_set.ensures.means _ c.requires.means
+
+pub returns-in-Err-clause-means : goal.returns-in-Err-clause-means
+returns-in-Err-clause-means g c = c.check_set.ensures.means _ c.requires.means
+
+pub returns-in_err-get-in-Ok-clause-means : goal.returns-in_err-get-in-Ok-clause-means
+returns-in_err-get-in-Ok-clause-means g c = c.get.ensures.means _ (c.check_set.ensures.means _ c.requires.means)
+
+pub returns-in_err-set-in-Ok-clause-means : goal.returns-in_err-set-in-Ok-clause-means
+returns-in_err-set-in-Ok-clause-means g c = c.set-in-Ok.ensures.means
+
+pub returns-in_ok-set-in-Ok-clause-means : goal.returns-in_ok-set-in-Ok-clause-means
+returns-in_ok-set-in-Ok-clause-means g c = c.set-in-Ok.ensures.means
+
+-- how many records it wrote
+pub returns-in_err-reason-clause-few : goal.returns-in_err-reason-clause-few
+returns-in_err-reason-clause-few g c = few_none (g.P.PageSpace.view c.args.space.now) (g.P.PageSpace.view c.check_set.new.space) _ c.check_set.ensures.writes.records
+
+pub returns-in-Err-clause-few : goal.returns-in-Err-clause-few
+returns-in-Err-clause-few g c = few_none (g.P.PageSpace.view c.args.space.now) (g.P.PageSpace.view c.check_set.new.space) _ c.check_set.ensures.writes.records
+
+pub returns-in_err-get-in-Ok-clause-few : goal.returns-in_err-get-in-Ok-clause-few
+returns-in_err-get-in-Ok-clause-few g c = few_none (g.P.PageSpace.view c.args.space.now) (g.P.PageSpace.view c.get.new.space) _ (c.get.ensures.writes.records ∙ c.check_set.ensures.writes.records)
+
+pub returns-in_err-set-in-Ok-clause-few : goal.returns-in_err-set-in-Ok-clause-few
+returns-in_err-set-in-Ok-clause-few g c = few_from (g.P.PageSpace.view c.args.space.now) (g.P.PageSpace.view c.get.new.space) (g.P.PageSpace.view c.set-in-Ok.new.space) _ (c.get.ensures.writes.records ∙ c.check_set.ensures.writes.records) c.set-in-Ok.ensures.few
+
+pub returns-in_ok-set-in-Ok-clause-few : goal.returns-in_ok-set-in-Ok-clause-few
+returns-in_ok-set-in-Ok-clause-few g c = few_from (g.P.PageSpace.view c.args.space.now) (g.P.PageSpace.view c.get.new.space) (g.P.PageSpace.view c.set-in-Ok.new.space) _ (c.get.ensures.writes.records ∙ c.check_set.ensures.writes.records) c.set-in-Ok.ensures.few
+
+-- where it noted nothing
+pub returns-in-Err-clause-quiet : goal.returns-in-Err-clause-quiet
+returns-in-Err-clause-quiet g c = λ _. record { records = c.check_set.ensures.writes.records; still = c.in_ok-reason.ensures.kept.still }
+
+pub returns-in_err-reason-clause-did : goal.returns-in_err-reason-clause-did
+returns-in_err-reason-clause-did g c =
+    let p = err_from_is_err_and c.from_residual.result c.from_residual.ensures.1 in
+    no_ok _ c.from_residual.result p.0 p.1
+
+pub returns-in_err-reason-clause-quiet : goal.returns-in_err-reason-clause-quiet
+returns-in_err-reason-clause-quiet g c =
+    let p = err_from_is_err_and c.from_residual.result c.from_residual.ensures.1 in
+    no_ok _ c.from_residual.result p.0 p.1
+
+pub returns-in_err-get-in-Ok-clause-did : goal.returns-in_err-get-in-Ok-clause-did
+returns-in_err-get-in-Ok-clause-did g c =
+    let p = err_from_is_err_and c.from_residual-in_err-get-in-Ok.result c.from_residual-in_err-get-in-Ok.ensures.1 in
+    no_ok _ c.from_residual-in_err-get-in-Ok.result p.0 p.1
+
+pub returns-in_err-get-in-Ok-clause-quiet : goal.returns-in_err-get-in-Ok-clause-quiet
+returns-in_err-get-in-Ok-clause-quiet g c =
+    let p = err_from_is_err_and c.from_residual-in_err-get-in-Ok.result c.from_residual-in_err-get-in-Ok.ensures.1 in
+    no_ok _ c.from_residual-in_err-get-in-Ok.result p.0 p.1
+
+pub returns-in_err-set-in-Ok-clause-did : goal.returns-in_err-set-in-Ok-clause-did
+returns-in_err-set-in-Ok-clause-did g c =
+    let p = err_from_is_err_and c.from_residual-in_err-set-in-Ok.result c.from_residual-in_err-set-in-Ok.ensures.1 in
+    no_ok _ c.from_residual-in_err-set-in-Ok.result p.0 p.1
+
+pub returns-in_err-set-in-Ok-clause-quiet : goal.returns-in_err-set-in-Ok-clause-quiet
+returns-in_err-set-in-Ok-clause-quiet g c =
+    let p = err_from_is_err_and c.from_residual-in_err-set-in-Ok.result c.from_residual-in_err-set-in-Ok.ensures.1 in
+    no_ok _ c.from_residual-in_err-set-in-Ok.result p.0 p.1
+
+-- and is the space later
+pub returns-in_err-reason-clause-later : goal.returns-in_err-reason-clause-later
+returns-in_err-reason-clause-later g c = c.check_set.ensures.later _
+
+pub returns-in-Err-clause-later : goal.returns-in-Err-clause-later
+returns-in-Err-clause-later g c = c.check_set.ensures.later _

@@ -1,4 +1,4 @@
-use Rattle.std.proofs.Common.{Result, subst}
+use Rattle.std.proofs.Common.{◌∙◌, Result, subst}
 use Rattle.sg_base.specs.declared.numbers.PageNo.{PageNo}
 use Rattle.sg_catalog.specs.declared.row.ObjectKind.TheVariants as kinds
 use Rattle.sg_model.specs.declared.reason.Reason.{Reason}
@@ -8,6 +8,8 @@ use Rattle.sg_objects.proofs.Located.{still_contents}
 use Rattle.sg_objects.proofs.Checks.{array_there}
 use Rattle.sg_objects.proofs.Undoing.{not_missing, carried_at, can_unpush, undo_push_done}
 use Rattle.sg_objects.proofs.Bodies.{undone_from}
+use Rattle.std.proofs.lemmas.Result.{err_from_is_err_and}
+use Rattle.sg_objects.proofs.Counting.{went, went_then, counts_ok, counts_then, counts_err, counts_broken, few_none, few_from}
 use Rattle.sg_objects.proofs.back.undo_push.Goals as goal
 
 pub broken-requires : goal.broken-requires
@@ -61,3 +63,53 @@ returns-in-Err-clause-later g c = let then = g.met.P.PageSpace.later_then _ in t
 
 pub returns-in_ok-pop-in-Ok-clause-later : goal.returns-in_ok-pop-in-Ok-clause-later
 returns-in_ok-pop-in-Ok-clause-later g c = let then = g.met.P.PageSpace.later_then _ in then _ _ _ (c.root_of.ensures.later _) c.pop.ensures.later
+
+-- how often it failed
+pub returns-in_err-root_of-clause-counts : goal.returns-in_err-root_of-clause-counts
+returns-in_err-root_of-clause-counts g c =
+    let p = err_from_is_err_and c.from_residual.result c.from_residual.ensures.1 in
+    counts_err c.from_residual.result _ p.0 p.1 p.2 (c.in_err-root_of.ensures.counts)
+
+pub returns-in-Err-clause-counts : goal.returns-in-Err-clause-counts
+returns-in-Err-clause-counts g c = counts_then (went c.in_ok-root_of.ensures.counts) (counts_broken _ c.broken.ensures.answer c.broken.ensures.told c.broken.ensures.risen c.broken.ensures.rising)
+
+pub returns-in_err-pop-in-Ok-clause-counts : goal.returns-in_err-pop-in-Ok-clause-counts
+returns-in_err-pop-in-Ok-clause-counts g c =
+    let p = err_from_is_err_and c.from_residual-in_err-pop-in-Ok.result c.from_residual-in_err-pop-in-Ok.ensures.1 in
+    counts_err c.from_residual-in_err-pop-in-Ok.result _ p.0 p.1 p.2 (counts_then (went c.in_ok-root_of.ensures.counts) c.in_err-pop-in-Ok.ensures.counts)
+
+pub returns-in_ok-pop-in-Ok-clause-counts : goal.returns-in_ok-pop-in-Ok-clause-counts
+returns-in_ok-pop-in-Ok-clause-counts g c = counts_ok _ (went_then (went c.in_ok-root_of.ensures.counts) (went c.in_ok-pop-in-Ok.ensures.counts))
+
+-- its records can still be read
+pub returns-in_err-root_of-clause-means : goal.returns-in_err-root_of-clause-means
+returns-in_err-root_of-clause-means g c = c.root_of.ensures.means _ c.requires.means
+
+pub returns-in-Err-clause-means : goal.returns-in-Err-clause-means
+returns-in-Err-clause-means g c = c.broken.ensures.means _ (c.root_of.ensures.means _ c.requires.means)
+
+pub returns-in_err-pop-in-Ok-clause-means : goal.returns-in_err-pop-in-Ok-clause-means
+returns-in_err-pop-in-Ok-clause-means g c = c.pop.ensures.means
+
+pub returns-in_ok-pop-in-Ok-clause-means : goal.returns-in_ok-pop-in-Ok-clause-means
+returns-in_ok-pop-in-Ok-clause-means g c = c.pop.ensures.means
+
+-- how many records it wrote
+pub returns-in_err-root_of-clause-few : goal.returns-in_err-root_of-clause-few
+returns-in_err-root_of-clause-few g c = few_none (g.P.PageSpace.view c.args.space.now) (g.P.PageSpace.view c.root_of.new.space) _ c.root_of.ensures.writes.records
+
+pub returns-in-Err-clause-few : goal.returns-in-Err-clause-few
+returns-in-Err-clause-few g c = few_none (g.P.PageSpace.view c.args.space.now) (g.P.PageSpace.view c.broken.new.self) _ (c.broken.ensures.writes_none ∙ c.root_of.ensures.writes.records)
+
+pub returns-in_err-pop-in-Ok-clause-few : goal.returns-in_err-pop-in-Ok-clause-few
+returns-in_err-pop-in-Ok-clause-few g c = few_from (g.P.PageSpace.view c.args.space.now) (g.P.PageSpace.view c.root_of.new.space) (g.P.PageSpace.view c.pop.new.space) _ c.root_of.ensures.writes.records c.pop.ensures.few
+
+pub returns-in_ok-pop-in-Ok-clause-few : goal.returns-in_ok-pop-in-Ok-clause-few
+returns-in_ok-pop-in-Ok-clause-few g c = few_from (g.P.PageSpace.view c.args.space.now) (g.P.PageSpace.view c.root_of.new.space) (g.P.PageSpace.view c.pop.new.space) _ c.root_of.ensures.writes.records c.pop.ensures.few
+
+-- and is the space later
+pub returns-in_err-root_of-clause-later : goal.returns-in_err-root_of-clause-later
+returns-in_err-root_of-clause-later g c = c.root_of.ensures.later _
+
+pub returns-in-Err-clause-did : goal.returns-in-Err-clause-did
+returns-in-Err-clause-did g c = tt

@@ -8,6 +8,8 @@ use Rattle.sg_objects.proofs.BlobVerbs.{can_paint, paint_done}
 use Rattle.sg_objects.proofs.Bodies.{from_start}
 use Rattle.sg_objects.proofs.Applying.{refused_by}
 use Rattle.sg_objects.proofs.Writing.{wrote_body}
+use Rattle.std.proofs.lemmas.Result.{err_from_is_err_and}
+use Rattle.sg_objects.proofs.Counting.{went, went_then, counts_ok, counts_then, counts_err, no_ok, few_none}
 use Rattle.sg_objects.proofs.blob_paint.paint.Goals as goal
 
 pub returns-in-Err-clause-did : goal.returns-in-Err-clause-did
@@ -65,3 +67,71 @@ returns-in_ok-paint-in-Ok-clause-wrote g c =
           let one = did.turns mid f.found.blob (blob_at now f.found) (can_paint f) in
           wrote_body one.0 k shows f.found one.1 one.3;
     }
+
+-- how often it failed
+pub returns-in_err-reason-clause-counts : goal.returns-in_err-reason-clause-counts
+returns-in_err-reason-clause-counts g c =
+    let p = err_from_is_err_and c.from_residual.result c.from_residual.ensures.1 in
+    counts_err c.from_residual.result _ p.0 p.1 p.2 (c.in_err-reason.ensures.counts)
+
+pub returns-in-Err-clause-counts : goal.returns-in-Err-clause-counts
+returns-in-Err-clause-counts g c = counts_ok _ (went c.in_ok-reason.ensures.counts)
+
+pub returns-in_err-paint-in-Ok-clause-counts : goal.returns-in_err-paint-in-Ok-clause-counts
+returns-in_err-paint-in-Ok-clause-counts g c =
+    let p = err_from_is_err_and c.from_residual-in_err-paint-in-Ok.result c.from_residual-in_err-paint-in-Ok.ensures.1 in
+    counts_err c.from_residual-in_err-paint-in-Ok.result _ p.0 p.1 p.2 (counts_then (went c.in_ok-reason.ensures.counts) c.in_err-paint-in-Ok.ensures.counts)
+
+pub returns-in_ok-paint-in-Ok-clause-counts : goal.returns-in_ok-paint-in-Ok-clause-counts
+returns-in_ok-paint-in-Ok-clause-counts g c = counts_ok _ (went_then (went c.in_ok-reason.ensures.counts) (went c.in_ok-paint-in-Ok.ensures.counts))
+
+-- its records can still be read
+pub returns-in_err-reason-clause-means : goal.returns-in_err-reason-clause-means
+returns-in_err-reason-clause-means g c = c.check_paint.ensures.means _ c.requires.means
+
+pub returns-in-Err-clause-means : goal.returns-in-Err-clause-means
+returns-in-Err-clause-means g c = c.check_paint.ensures.means _ c.requires.means
+
+pub returns-in_err-paint-in-Ok-clause-means : goal.returns-in_err-paint-in-Ok-clause-means
+returns-in_err-paint-in-Ok-clause-means g c = c.paint.ensures.means
+
+pub returns-in_ok-paint-in-Ok-clause-means : goal.returns-in_ok-paint-in-Ok-clause-means
+returns-in_ok-paint-in-Ok-clause-means g c = c.paint.ensures.means
+
+-- how many records it wrote
+pub returns-in_err-reason-clause-few : goal.returns-in_err-reason-clause-few
+returns-in_err-reason-clause-few g c = few_none (g.P.PageSpace.view c.args.space.now) (g.P.PageSpace.view c.check_paint.new.space) _ c.check_paint.ensures.writes.records
+
+pub returns-in-Err-clause-few : goal.returns-in-Err-clause-few
+returns-in-Err-clause-few g c = few_none (g.P.PageSpace.view c.args.space.now) (g.P.PageSpace.view c.check_paint.new.space) _ c.check_paint.ensures.writes.records
+
+pub returns-in-Err-clause-quiet : goal.returns-in-Err-clause-quiet
+returns-in-Err-clause-quiet g c = λ _. record { records = c.check_paint.ensures.writes.records; still = c.in_ok-reason.ensures.kept.still }
+
+-- nothing is said of a result where there is none
+pub returns-in_err-reason-clause-did : goal.returns-in_err-reason-clause-did
+returns-in_err-reason-clause-did g c =
+    let p = err_from_is_err_and c.from_residual.result c.from_residual.ensures.1 in
+    no_ok _ c.from_residual.result p.0 p.1
+
+pub returns-in_err-reason-clause-quiet : goal.returns-in_err-reason-clause-quiet
+returns-in_err-reason-clause-quiet g c =
+    let p = err_from_is_err_and c.from_residual.result c.from_residual.ensures.1 in
+    no_ok _ c.from_residual.result p.0 p.1
+
+pub returns-in_err-paint-in-Ok-clause-did : goal.returns-in_err-paint-in-Ok-clause-did
+returns-in_err-paint-in-Ok-clause-did g c =
+    let p = err_from_is_err_and c.from_residual-in_err-paint-in-Ok.result c.from_residual-in_err-paint-in-Ok.ensures.1 in
+    no_ok _ c.from_residual-in_err-paint-in-Ok.result p.0 p.1
+
+pub returns-in_err-paint-in-Ok-clause-quiet : goal.returns-in_err-paint-in-Ok-clause-quiet
+returns-in_err-paint-in-Ok-clause-quiet g c =
+    let p = err_from_is_err_and c.from_residual-in_err-paint-in-Ok.result c.from_residual-in_err-paint-in-Ok.ensures.1 in
+    no_ok _ c.from_residual-in_err-paint-in-Ok.result p.0 p.1
+
+-- and is the space later
+pub returns-in_err-reason-clause-later : goal.returns-in_err-reason-clause-later
+returns-in_err-reason-clause-later g c = c.check_paint.ensures.later _
+
+pub returns-in-Err-clause-later : goal.returns-in-Err-clause-later
+returns-in-Err-clause-later g c = c.check_paint.ensures.later _

@@ -10,6 +10,8 @@ use Rattle.sg_objects.proofs.Blobbed.{blob_at}
 use Rattle.sg_objects.proofs.BlobVerbs.{reading_done, read_front}
 use Rattle.sg_objects.proofs.Bodies.{from_start}
 use Rattle.sg_objects.proofs.Doing.{refused_did}
+use Rattle.std.proofs.lemmas.Result.{err_from_is_err_and}
+use Rattle.sg_objects.proofs.Counting.{went, went_then, counts_ok, counts_then, counts_err, no_ok}
 use Rattle.sg_objects.proofs.blob_read.read.Goals as goal
 
 pub returns-in-Err-clause-did : goal.returns-in-Err-clause-did
@@ -46,3 +48,74 @@ returns-in_ok-read-in-Ok-clause-did g c =
           let read = c.in_ok-read-in-Ok.ensures.read shows1 f.found.blob (blob_at now f.found) in
           (s, from_start k shows (reading_done _ 0 c.args.at c.args.count _ _ (k2.same shows1) now f (read_front c.args.count c.read.new.into _ (drop c.args.at f.found.blob.bytes) (c.read.auto.into ∙ length-take-le c.args.count c.args.into.now (let few = f.few in let room = c.requires.room in omega arith)) read) c.set.ensures));
     }
+
+-- how often it failed
+pub returns-in_err-reason-clause-counts : goal.returns-in_err-reason-clause-counts
+returns-in_err-reason-clause-counts g c =
+    let p = err_from_is_err_and c.from_residual.result c.from_residual.ensures.1 in
+    counts_err c.from_residual.result _ p.0 p.1 p.2 (c.in_err-reason.ensures.counts)
+
+pub returns-in-Err-clause-counts : goal.returns-in-Err-clause-counts
+returns-in-Err-clause-counts g c = counts_ok _ (went c.in_ok-reason.ensures.counts)
+
+pub returns-in_err-read-in-Ok-clause-counts : goal.returns-in_err-read-in-Ok-clause-counts
+returns-in_err-read-in-Ok-clause-counts g c =
+    let p = err_from_is_err_and c.from_residual-in_err-read-in-Ok.result c.from_residual-in_err-read-in-Ok.ensures.1 in
+    counts_err c.from_residual-in_err-read-in-Ok.result _ p.0 p.1 p.2 (counts_then (went c.in_ok-reason.ensures.counts) c.in_err-read-in-Ok.ensures.counts)
+
+pub returns-in_ok-read-in-Ok-clause-counts : goal.returns-in_ok-read-in-Ok-clause-counts
+returns-in_ok-read-in-Ok-clause-counts g c = counts_ok _ (went_then (went c.in_ok-reason.ensures.counts) (went c.in_ok-read-in-Ok.ensures.counts))
+
+-- its records can still be read
+pub returns-in_err-reason-clause-means : goal.returns-in_err-reason-clause-means
+returns-in_err-reason-clause-means g c = c.check_read.ensures.means _ c.requires.means
+
+pub returns-in-Err-clause-means : goal.returns-in-Err-clause-means
+returns-in-Err-clause-means g c = c.check_read.ensures.means _ c.requires.means
+
+pub returns-in_err-read-in-Ok-clause-means : goal.returns-in_err-read-in-Ok-clause-means
+returns-in_err-read-in-Ok-clause-means g c = c.read.ensures.means _ (c.check_read.ensures.means _ c.requires.means)
+
+pub returns-in_ok-read-in-Ok-clause-means : goal.returns-in_ok-read-in-Ok-clause-means
+returns-in_ok-read-in-Ok-clause-means g c = c.read.ensures.means _ (c.check_read.ensures.means _ c.requires.means)
+
+-- where it noted nothing
+pub returns-in-Err-clause-quiet : goal.returns-in-Err-clause-quiet
+returns-in-Err-clause-quiet g c = λ _. record { records = c.check_read.ensures.writes.records; still = c.in_ok-reason.ensures.kept.still }
+
+pub returns-in_ok-read-in-Ok-clause-quiet : goal.returns-in_ok-read-in-Ok-clause-quiet
+returns-in_ok-read-in-Ok-clause-quiet g c = λ _. record { records = c.read.ensures.writes.records ∙ c.check_read.ensures.writes.records; still = λ s. c.in_ok-read-in-Ok.ensures.kept.still (c.in_ok-reason.ensures.kept.still s) }
+
+pub returns-in-Err-clause-looks : goal.returns-in-Err-clause-looks
+returns-in-Err-clause-looks g c = record { writes = record { only_disk = tt; records = c.check_read.ensures.writes.records }; note = c.set.ensures }
+
+pub returns-in_ok-read-in-Ok-clause-looks : goal.returns-in_ok-read-in-Ok-clause-looks
+returns-in_ok-read-in-Ok-clause-looks g c = record { writes = record { only_disk = tt; records = c.read.ensures.writes.records ∙ c.check_read.ensures.writes.records }; note = c.set.ensures }
+
+-- nothing is said of a result where there is none
+pub returns-in_err-reason-clause-did : goal.returns-in_err-reason-clause-did
+returns-in_err-reason-clause-did g c =
+    let p = err_from_is_err_and c.from_residual.result c.from_residual.ensures.1 in
+    no_ok _ c.from_residual.result p.0 p.1
+
+pub returns-in_err-reason-clause-quiet : goal.returns-in_err-reason-clause-quiet
+returns-in_err-reason-clause-quiet g c =
+    let p = err_from_is_err_and c.from_residual.result c.from_residual.ensures.1 in
+    no_ok _ c.from_residual.result p.0 p.1
+
+pub returns-in_err-read-in-Ok-clause-did : goal.returns-in_err-read-in-Ok-clause-did
+returns-in_err-read-in-Ok-clause-did g c =
+    let p = err_from_is_err_and c.from_residual-in_err-read-in-Ok.result c.from_residual-in_err-read-in-Ok.ensures.1 in
+    no_ok _ c.from_residual-in_err-read-in-Ok.result p.0 p.1
+
+pub returns-in_err-read-in-Ok-clause-quiet : goal.returns-in_err-read-in-Ok-clause-quiet
+returns-in_err-read-in-Ok-clause-quiet g c =
+    let p = err_from_is_err_and c.from_residual-in_err-read-in-Ok.result c.from_residual-in_err-read-in-Ok.ensures.1 in
+    no_ok _ c.from_residual-in_err-read-in-Ok.result p.0 p.1
+
+-- and is the space later
+pub returns-in_err-reason-clause-later : goal.returns-in_err-reason-clause-later
+returns-in_err-reason-clause-later g c = c.check_read.ensures.later _
+
+pub returns-in-Err-clause-later : goal.returns-in-Err-clause-later
+returns-in-Err-clause-later g c = c.check_read.ensures.later _

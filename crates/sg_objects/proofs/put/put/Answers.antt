@@ -6,12 +6,15 @@ use Rattle.sg_model.specs.Verb.Verb.{Put}
 use Rattle.sg_space.specs.View.{Space}
 use Rattle.sg_space.proofs.Known.{still}
 use Rattle.sg_objects.specs.Found.{PutChecked}
-use Rattle.sg_objects.proofs.Bodies.{from_start}
+use Rattle.sg_objects.proofs.Bodies.{from_start, noted_some}
 use Rattle.sg_objects.proofs.Located.{still_contents}
 use Rattle.sg_objects.proofs.Doing.{refused_did, still_room}
 use Rattle.sg_objects.proofs.Fresh.{still_fresh}
 use Rattle.sg_objects.proofs.Tables.{table_there}
 use Rattle.sg_objects.proofs.Putting.{put_done, can_put}
+use Rattle.std.proofs.lemmas.Result.{err_from_is_err_and}
+use Rattle.sg_reading.specs.Back.Undoing.{WasPut, WasOver}
+use Rattle.sg_objects.proofs.Counting.{went, went_then, counts_ok, counts_then, counts_err, no_ok, few_none, few_from}
 use Rattle.sg_objects.proofs.put.put.Goals as goal
 use Rattle.sg_objects.proofs.Shaping.{put_shapes}
 
@@ -134,3 +137,129 @@ returns-in-Some-clause-splits g c = record {
       let one = (c.in_ok-put-in-Ok.ensures.did).turns (k2.keeps.told mid) t.0 stood (can_put _ c.args.key.now c.args.value.now later f.0 t.1 stood (f.1).0 (f.1).1 f.2 (still_fresh k2 shows1 (still_fresh k shows (c.requires.fresh told))) (still_room k2 shows1 (still_room k shows can))) in
       put_shapes c.args.key.now c.args.value.now _ f.0 t.1 (one.1).table one.2;
 }
+
+-- how often it failed
+pub returns-in_err-reason-clause-counts : goal.returns-in_err-reason-clause-counts
+returns-in_err-reason-clause-counts g c =
+    let p = err_from_is_err_and c.from_residual.result c.from_residual.ensures.1 in
+    counts_err c.from_residual.result _ p.0 p.1 p.2 (c.in_err-reason.ensures.counts)
+
+pub returns-in-Err-clause-counts : goal.returns-in-Err-clause-counts
+returns-in-Err-clause-counts g c = counts_ok _ (went c.in_ok-reason.ensures.counts)
+
+pub returns-in_err-sought-in-Ok-clause-counts : goal.returns-in_err-sought-in-Ok-clause-counts
+returns-in_err-sought-in-Ok-clause-counts g c =
+    let p = err_from_is_err_and c.from_residual-in_err-sought-in-Ok.result c.from_residual-in_err-sought-in-Ok.ensures.1 in
+    counts_err c.from_residual-in_err-sought-in-Ok.result _ p.0 p.1 p.2 (counts_then (went c.in_ok-reason.ensures.counts) c.in_err-sought-in-Ok.ensures.counts)
+
+pub returns-in_err-put-in-Ok-clause-counts : goal.returns-in_err-put-in-Ok-clause-counts
+returns-in_err-put-in-Ok-clause-counts g c =
+    let p = err_from_is_err_and c.from_residual-in_err-put-in-Ok.result c.from_residual-in_err-put-in-Ok.ensures.1 in
+    counts_err c.from_residual-in_err-put-in-Ok.result _ p.0 p.1 p.2 (counts_then (went_then (went c.in_ok-reason.ensures.counts) (went c.in_ok-sought-in-Ok.ensures.counts)) c.in_err-put-in-Ok.ensures.counts)
+
+pub returns-in_default-clause-counts : goal.returns-in_default-clause-counts
+returns-in_default-clause-counts g c = counts_ok _ (went_then (went c.in_ok-reason.ensures.counts) (went_then (went c.in_ok-sought-in-Ok.ensures.counts) (went c.in_ok-put-in-Ok.ensures.counts)))
+
+pub returns-in-Some-clause-counts : goal.returns-in-Some-clause-counts
+returns-in-Some-clause-counts g c = counts_ok _ (went_then (went c.in_ok-reason.ensures.counts) (went_then (went c.in_ok-sought-in-Ok.ensures.counts) (went c.in_ok-put-in-Ok.ensures.counts)))
+
+-- its records can still be read
+pub returns-in_err-reason-clause-means : goal.returns-in_err-reason-clause-means
+returns-in_err-reason-clause-means g c = c.check_put.ensures.means _ c.requires.means
+
+pub returns-in-Err-clause-means : goal.returns-in-Err-clause-means
+returns-in-Err-clause-means g c = c.check_put.ensures.means _ c.requires.means
+
+pub returns-in_err-sought-in-Ok-clause-means : goal.returns-in_err-sought-in-Ok-clause-means
+returns-in_err-sought-in-Ok-clause-means g c = c.find.ensures.means _ (c.check_put.ensures.means _ c.requires.means)
+
+pub returns-in_err-put-in-Ok-clause-means : goal.returns-in_err-put-in-Ok-clause-means
+returns-in_err-put-in-Ok-clause-means g c = c.put.ensures.means
+
+pub returns-in_default-clause-means : goal.returns-in_default-clause-means
+returns-in_default-clause-means g c = c.put.ensures.means
+
+pub returns-in-Some-clause-means : goal.returns-in-Some-clause-means
+returns-in-Some-clause-means g c = c.put.ensures.means
+
+-- how many records it wrote
+pub returns-in_err-reason-clause-few : goal.returns-in_err-reason-clause-few
+returns-in_err-reason-clause-few g c = λ _. few_none (g.P.PageSpace.view c.args.space.now) (g.P.PageSpace.view c.check_put.new.space) _ c.check_put.ensures.writes.records
+
+pub returns-in-Err-clause-few : goal.returns-in-Err-clause-few
+returns-in-Err-clause-few g c = λ _. few_none (g.P.PageSpace.view c.args.space.now) (g.P.PageSpace.view c.check_put.new.space) _ c.check_put.ensures.writes.records
+
+pub returns-in_err-sought-in-Ok-clause-few : goal.returns-in_err-sought-in-Ok-clause-few
+returns-in_err-sought-in-Ok-clause-few g c = λ _. few_none (g.P.PageSpace.view c.args.space.now) (g.P.PageSpace.view c.find.new.space) _ (c.find.ensures.writes.records ∙ c.check_put.ensures.writes.records)
+
+pub returns-in_err-put-in-Ok-clause-few : goal.returns-in_err-put-in-Ok-clause-few
+returns-in_err-put-in-Ok-clause-few g c = λ told. few_from (g.P.PageSpace.view c.args.space.now) (g.P.PageSpace.view c.find.new.space) (g.P.PageSpace.view c.put.new.space) _ (c.find.ensures.writes.records ∙ c.check_put.ensures.writes.records) (c.put.ensures.few_split (c.in_ok-sought-in-Ok.ensures.kept.keeps.told (c.in_ok-reason.ensures.kept.keeps.told told)))
+
+pub returns-in_default-clause-few : goal.returns-in_default-clause-few
+returns-in_default-clause-few g c = λ told. few_from (g.P.PageSpace.view c.args.space.now) (g.P.PageSpace.view c.find.new.space) (g.P.PageSpace.view c.put.new.space) _ (c.find.ensures.writes.records ∙ c.check_put.ensures.writes.records) (c.put.ensures.few_split (c.in_ok-sought-in-Ok.ensures.kept.keeps.told (c.in_ok-reason.ensures.kept.keeps.told told)))
+
+pub returns-in-Some-clause-few : goal.returns-in-Some-clause-few
+returns-in-Some-clause-few g c = λ told. few_from (g.P.PageSpace.view c.args.space.now) (g.P.PageSpace.view c.find.new.space) (g.P.PageSpace.view c.put.new.space) _ (c.find.ensures.writes.records ∙ c.check_put.ensures.writes.records) (c.put.ensures.few_split (c.in_ok-sought-in-Ok.ensures.kept.keeps.told (c.in_ok-reason.ensures.kept.keeps.told told)))
+
+-- where it noted nothing
+pub returns-in-Err-clause-quiet : goal.returns-in-Err-clause-quiet
+returns-in-Err-clause-quiet g c = λ _. record { records = c.check_put.ensures.writes.records; still = c.in_ok-reason.ensures.kept.still }
+
+pub returns-in_default-clause-quiet : goal.returns-in_default-clause-quiet
+returns-in_default-clause-quiet g c = λ e. absurd (noted_some c.args.name (WasPut c.args.key.now) tt c.note_put.ensures e)
+
+pub returns-in-Some-clause-quiet : goal.returns-in-Some-clause-quiet
+returns-in-Some-clause-quiet g c = λ e. absurd (noted_some c.args.name (WasOver c.args.key.now (take c.in-Some.n c.find.new.into)) tt c.note_over.ensures e)
+
+-- nothing is said of a result where there is none
+pub returns-in_err-reason-clause-did : goal.returns-in_err-reason-clause-did
+returns-in_err-reason-clause-did g c =
+    let p = err_from_is_err_and c.from_residual.result c.from_residual.ensures.1 in
+    no_ok _ c.from_residual.result p.0 p.1
+
+pub returns-in_err-reason-clause-splits : goal.returns-in_err-reason-clause-splits
+returns-in_err-reason-clause-splits g c =
+    let p = err_from_is_err_and c.from_residual.result c.from_residual.ensures.1 in
+    no_ok _ c.from_residual.result p.0 p.1
+
+pub returns-in_err-reason-clause-quiet : goal.returns-in_err-reason-clause-quiet
+returns-in_err-reason-clause-quiet g c =
+    let p = err_from_is_err_and c.from_residual.result c.from_residual.ensures.1 in
+    no_ok _ c.from_residual.result p.0 p.1
+
+pub returns-in_err-sought-in-Ok-clause-did : goal.returns-in_err-sought-in-Ok-clause-did
+returns-in_err-sought-in-Ok-clause-did g c =
+    let p = err_from_is_err_and c.from_residual-in_err-sought-in-Ok.result c.from_residual-in_err-sought-in-Ok.ensures.1 in
+    no_ok _ c.from_residual-in_err-sought-in-Ok.result p.0 p.1
+
+pub returns-in_err-sought-in-Ok-clause-splits : goal.returns-in_err-sought-in-Ok-clause-splits
+returns-in_err-sought-in-Ok-clause-splits g c =
+    let p = err_from_is_err_and c.from_residual-in_err-sought-in-Ok.result c.from_residual-in_err-sought-in-Ok.ensures.1 in
+    no_ok _ c.from_residual-in_err-sought-in-Ok.result p.0 p.1
+
+pub returns-in_err-sought-in-Ok-clause-quiet : goal.returns-in_err-sought-in-Ok-clause-quiet
+returns-in_err-sought-in-Ok-clause-quiet g c =
+    let p = err_from_is_err_and c.from_residual-in_err-sought-in-Ok.result c.from_residual-in_err-sought-in-Ok.ensures.1 in
+    no_ok _ c.from_residual-in_err-sought-in-Ok.result p.0 p.1
+
+pub returns-in_err-put-in-Ok-clause-did : goal.returns-in_err-put-in-Ok-clause-did
+returns-in_err-put-in-Ok-clause-did g c =
+    let p = err_from_is_err_and c.from_residual-in_err-put-in-Ok.result c.from_residual-in_err-put-in-Ok.ensures.1 in
+    no_ok _ c.from_residual-in_err-put-in-Ok.result p.0 p.1
+
+pub returns-in_err-put-in-Ok-clause-splits : goal.returns-in_err-put-in-Ok-clause-splits
+returns-in_err-put-in-Ok-clause-splits g c =
+    let p = err_from_is_err_and c.from_residual-in_err-put-in-Ok.result c.from_residual-in_err-put-in-Ok.ensures.1 in
+    no_ok _ c.from_residual-in_err-put-in-Ok.result p.0 p.1
+
+pub returns-in_err-put-in-Ok-clause-quiet : goal.returns-in_err-put-in-Ok-clause-quiet
+returns-in_err-put-in-Ok-clause-quiet g c =
+    let p = err_from_is_err_and c.from_residual-in_err-put-in-Ok.result c.from_residual-in_err-put-in-Ok.ensures.1 in
+    no_ok _ c.from_residual-in_err-put-in-Ok.result p.0 p.1
+
+-- and is the space later
+pub returns-in_err-reason-clause-later : goal.returns-in_err-reason-clause-later
+returns-in_err-reason-clause-later g c = c.check_put.ensures.later _
+
+pub returns-in-Err-clause-later : goal.returns-in-Err-clause-later
+returns-in-Err-clause-later g c = c.check_put.ensures.later _

@@ -10,7 +10,10 @@ use Rattle.sg_objects.specs.Found.{KeyChecked}
 use Rattle.sg_objects.proofs.Located.{still_contents}
 use Rattle.sg_objects.proofs.Doing.{refused_did}
 use Rattle.sg_objects.proofs.Tables.{table_there, deleted_none, deleted_done}
-use Rattle.sg_objects.proofs.Bodies.{from_start}
+use Rattle.sg_objects.proofs.Bodies.{from_start, noted_some}
+use Rattle.std.proofs.lemmas.Result.{err_from_is_err_and}
+use Rattle.sg_reading.specs.Back.Undoing.{WasOver}
+use Rattle.sg_objects.proofs.Counting.{went, went_then, counts_ok, counts_then, counts_err, no_ok, few_none, few_from}
 use Rattle.sg_objects.proofs.table.del.Goals as goal
 use Rattle.sg_objects.proofs.Shaping.{del_shapes}
 
@@ -122,3 +125,129 @@ returns-in_ok-del-in-Ok-clause-splits g c = record {
       let one = (c.in_ok-del-in-Ok.ensures.did).turns (k2.keeps.told mid) t.0 stood tt in
       del_shapes f.0 t.1 (one.1).table (one.2).shape;
 }
+
+-- how often it failed
+pub returns-in_err-reason-clause-counts : goal.returns-in_err-reason-clause-counts
+returns-in_err-reason-clause-counts g c =
+    let p = err_from_is_err_and c.from_residual.result c.from_residual.ensures.1 in
+    counts_err c.from_residual.result _ p.0 p.1 p.2 (c.in_err-reason.ensures.counts)
+
+pub returns-in-Err-clause-counts : goal.returns-in-Err-clause-counts
+returns-in-Err-clause-counts g c = counts_ok _ (went c.in_ok-reason.ensures.counts)
+
+pub returns-in_err-sought-in-Ok-clause-counts : goal.returns-in_err-sought-in-Ok-clause-counts
+returns-in_err-sought-in-Ok-clause-counts g c =
+    let p = err_from_is_err_and c.from_residual-in_err-sought-in-Ok.result c.from_residual-in_err-sought-in-Ok.ensures.1 in
+    counts_err c.from_residual-in_err-sought-in-Ok.result _ p.0 p.1 p.2 (counts_then (went c.in_ok-reason.ensures.counts) c.in_err-sought-in-Ok.ensures.counts)
+
+pub returns-in_err-del-in-Ok-clause-counts : goal.returns-in_err-del-in-Ok-clause-counts
+returns-in_err-del-in-Ok-clause-counts g c =
+    let p = err_from_is_err_and c.from_residual-in_err-del-in-Ok.result c.from_residual-in_err-del-in-Ok.ensures.1 in
+    counts_err c.from_residual-in_err-del-in-Ok.result _ p.0 p.1 p.2 (counts_then (went_then (went c.in_ok-reason.ensures.counts) (went c.in_ok-sought-in-Ok.ensures.counts)) c.in_err-del-in-Ok.ensures.counts)
+
+pub returns-in_default-clause-counts : goal.returns-in_default-clause-counts
+returns-in_default-clause-counts g c = counts_ok _ (went_then (went c.in_ok-reason.ensures.counts) (went c.in_ok-sought-in-Ok.ensures.counts))
+
+pub returns-in_ok-del-in-Ok-clause-counts : goal.returns-in_ok-del-in-Ok-clause-counts
+returns-in_ok-del-in-Ok-clause-counts g c = counts_ok _ (went_then (went c.in_ok-reason.ensures.counts) (went_then (went c.in_ok-sought-in-Ok.ensures.counts) (went c.in_ok-del-in-Ok.ensures.counts)))
+
+-- its records can still be read
+pub returns-in_err-reason-clause-means : goal.returns-in_err-reason-clause-means
+returns-in_err-reason-clause-means g c = c.check_key.ensures.means _ c.requires.means
+
+pub returns-in-Err-clause-means : goal.returns-in-Err-clause-means
+returns-in-Err-clause-means g c = c.check_key.ensures.means _ c.requires.means
+
+pub returns-in_err-sought-in-Ok-clause-means : goal.returns-in_err-sought-in-Ok-clause-means
+returns-in_err-sought-in-Ok-clause-means g c = c.find.ensures.means _ (c.check_key.ensures.means _ c.requires.means)
+
+pub returns-in_default-clause-means : goal.returns-in_default-clause-means
+returns-in_default-clause-means g c = c.find.ensures.means _ (c.check_key.ensures.means _ c.requires.means)
+
+pub returns-in_err-del-in-Ok-clause-means : goal.returns-in_err-del-in-Ok-clause-means
+returns-in_err-del-in-Ok-clause-means g c = c.del.ensures.means
+
+pub returns-in_ok-del-in-Ok-clause-means : goal.returns-in_ok-del-in-Ok-clause-means
+returns-in_ok-del-in-Ok-clause-means g c = c.del.ensures.means
+
+-- how many records it wrote
+pub returns-in_err-reason-clause-few : goal.returns-in_err-reason-clause-few
+returns-in_err-reason-clause-few g c = few_none (g.P.PageSpace.view c.args.space.now) (g.P.PageSpace.view c.check_key.new.space) _ c.check_key.ensures.writes.records
+
+pub returns-in-Err-clause-few : goal.returns-in-Err-clause-few
+returns-in-Err-clause-few g c = few_none (g.P.PageSpace.view c.args.space.now) (g.P.PageSpace.view c.check_key.new.space) _ c.check_key.ensures.writes.records
+
+pub returns-in_err-sought-in-Ok-clause-few : goal.returns-in_err-sought-in-Ok-clause-few
+returns-in_err-sought-in-Ok-clause-few g c = few_none (g.P.PageSpace.view c.args.space.now) (g.P.PageSpace.view c.find.new.space) _ (c.find.ensures.writes.records ∙ c.check_key.ensures.writes.records)
+
+pub returns-in_default-clause-few : goal.returns-in_default-clause-few
+returns-in_default-clause-few g c = few_none (g.P.PageSpace.view c.args.space.now) (g.P.PageSpace.view c.find.new.space) _ (c.find.ensures.writes.records ∙ c.check_key.ensures.writes.records)
+
+pub returns-in_err-del-in-Ok-clause-few : goal.returns-in_err-del-in-Ok-clause-few
+returns-in_err-del-in-Ok-clause-few g c = few_from (g.P.PageSpace.view c.args.space.now) (g.P.PageSpace.view c.find.new.space) (g.P.PageSpace.view c.del.new.space) _ (c.find.ensures.writes.records ∙ c.check_key.ensures.writes.records) c.del.ensures.few
+
+pub returns-in_ok-del-in-Ok-clause-few : goal.returns-in_ok-del-in-Ok-clause-few
+returns-in_ok-del-in-Ok-clause-few g c = few_from (g.P.PageSpace.view c.args.space.now) (g.P.PageSpace.view c.find.new.space) (g.P.PageSpace.view c.del.new.space) _ (c.find.ensures.writes.records ∙ c.check_key.ensures.writes.records) c.del.ensures.few
+
+-- where it noted nothing
+pub returns-in-Err-clause-quiet : goal.returns-in-Err-clause-quiet
+returns-in-Err-clause-quiet g c = λ _. record { records = c.check_key.ensures.writes.records; still = c.in_ok-reason.ensures.kept.still }
+
+pub returns-in_default-clause-quiet : goal.returns-in_default-clause-quiet
+returns-in_default-clause-quiet g c = λ _. record { records = c.find.ensures.writes.records ∙ c.check_key.ensures.writes.records; still = λ s. c.in_ok-sought-in-Ok.ensures.kept.still (c.in_ok-reason.ensures.kept.still s) }
+
+pub returns-in_ok-del-in-Ok-clause-quiet : goal.returns-in_ok-del-in-Ok-clause-quiet
+returns-in_ok-del-in-Ok-clause-quiet g c = λ e. absurd (noted_some c.args.name (WasOver c.args.key.now (take c.in-Some.n c.find.new.into)) tt c.note_over.ensures e)
+
+-- nothing is said of a result where there is none
+pub returns-in_err-reason-clause-did : goal.returns-in_err-reason-clause-did
+returns-in_err-reason-clause-did g c =
+    let p = err_from_is_err_and c.from_residual.result c.from_residual.ensures.1 in
+    no_ok _ c.from_residual.result p.0 p.1
+
+pub returns-in_err-reason-clause-splits : goal.returns-in_err-reason-clause-splits
+returns-in_err-reason-clause-splits g c =
+    let p = err_from_is_err_and c.from_residual.result c.from_residual.ensures.1 in
+    no_ok _ c.from_residual.result p.0 p.1
+
+pub returns-in_err-reason-clause-quiet : goal.returns-in_err-reason-clause-quiet
+returns-in_err-reason-clause-quiet g c =
+    let p = err_from_is_err_and c.from_residual.result c.from_residual.ensures.1 in
+    no_ok _ c.from_residual.result p.0 p.1
+
+pub returns-in_err-sought-in-Ok-clause-did : goal.returns-in_err-sought-in-Ok-clause-did
+returns-in_err-sought-in-Ok-clause-did g c =
+    let p = err_from_is_err_and c.from_residual-in_err-sought-in-Ok.result c.from_residual-in_err-sought-in-Ok.ensures.1 in
+    no_ok _ c.from_residual-in_err-sought-in-Ok.result p.0 p.1
+
+pub returns-in_err-sought-in-Ok-clause-splits : goal.returns-in_err-sought-in-Ok-clause-splits
+returns-in_err-sought-in-Ok-clause-splits g c =
+    let p = err_from_is_err_and c.from_residual-in_err-sought-in-Ok.result c.from_residual-in_err-sought-in-Ok.ensures.1 in
+    no_ok _ c.from_residual-in_err-sought-in-Ok.result p.0 p.1
+
+pub returns-in_err-sought-in-Ok-clause-quiet : goal.returns-in_err-sought-in-Ok-clause-quiet
+returns-in_err-sought-in-Ok-clause-quiet g c =
+    let p = err_from_is_err_and c.from_residual-in_err-sought-in-Ok.result c.from_residual-in_err-sought-in-Ok.ensures.1 in
+    no_ok _ c.from_residual-in_err-sought-in-Ok.result p.0 p.1
+
+pub returns-in_err-del-in-Ok-clause-did : goal.returns-in_err-del-in-Ok-clause-did
+returns-in_err-del-in-Ok-clause-did g c =
+    let p = err_from_is_err_and c.from_residual-in_err-del-in-Ok.result c.from_residual-in_err-del-in-Ok.ensures.1 in
+    no_ok _ c.from_residual-in_err-del-in-Ok.result p.0 p.1
+
+pub returns-in_err-del-in-Ok-clause-splits : goal.returns-in_err-del-in-Ok-clause-splits
+returns-in_err-del-in-Ok-clause-splits g c =
+    let p = err_from_is_err_and c.from_residual-in_err-del-in-Ok.result c.from_residual-in_err-del-in-Ok.ensures.1 in
+    no_ok _ c.from_residual-in_err-del-in-Ok.result p.0 p.1
+
+pub returns-in_err-del-in-Ok-clause-quiet : goal.returns-in_err-del-in-Ok-clause-quiet
+returns-in_err-del-in-Ok-clause-quiet g c =
+    let p = err_from_is_err_and c.from_residual-in_err-del-in-Ok.result c.from_residual-in_err-del-in-Ok.ensures.1 in
+    no_ok _ c.from_residual-in_err-del-in-Ok.result p.0 p.1
+
+-- and is the space later
+pub returns-in_err-reason-clause-later : goal.returns-in_err-reason-clause-later
+returns-in_err-reason-clause-later g c = c.check_key.ensures.later _
+
+pub returns-in-Err-clause-later : goal.returns-in-Err-clause-later
+returns-in-Err-clause-later g c = c.check_key.ensures.later _

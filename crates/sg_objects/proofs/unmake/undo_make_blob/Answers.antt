@@ -1,4 +1,4 @@
-use Rattle.std.proofs.Common.{Result, subst}
+use Rattle.std.proofs.Common.{◌∙◌, arith, Result, subst}
 use Rattle.sg_base.specs.declared.numbers.PageNo.{PageNo}
 use Rattle.sg_catalog.specs.declared.row.ObjectKind.TheVariants as kinds
 use Rattle.sg_model.specs.declared.reason.Reason.{Reason}
@@ -7,6 +7,8 @@ use Rattle.sg_objects.proofs.Bodies.{undone_from}
 use Rattle.sg_objects.proofs.Located.{still_contents}
 use Rattle.sg_objects.proofs.Raising.{has_row, undo_make_done}
 use Rattle.sg_objects.proofs.Unmaking.{left_blob, blob_gone, body_went}
+use Rattle.std.proofs.lemmas.Result.{err_from_is_err_and}
+use Rattle.sg_objects.proofs.Counting.{went, went_then, counts_ok, counts_then, counts_err, counts_broken, few_by, few_none, few_then, few_from}
 use Rattle.sg_objects.proofs.unmake.undo_make_blob.Goals as goal
 
 pub free_all-requires : goal.free_all-requires
@@ -50,3 +52,64 @@ returns-in-Err-clause-later g c = let then = g.met.P.PageSpace.later_then _ in t
 
 pub returns-in_ok-free_all-in-Ok-clause-later : goal.returns-in_ok-free_all-in-Ok-clause-later
 returns-in_ok-free_all-in-Ok-clause-later g c = let then = g.met.P.PageSpace.later_then _ in then _ _ _ (c.root_of.ensures.later _) (then _ _ _ c.remove.ensures.later (c.free_all.ensures.later _))
+
+-- how often it failed
+pub returns-in_err-root_of-clause-counts : goal.returns-in_err-root_of-clause-counts
+returns-in_err-root_of-clause-counts g c =
+    let p = err_from_is_err_and c.from_residual.result c.from_residual.ensures.1 in
+    counts_err c.from_residual.result _ p.0 p.1 p.2 (c.in_err-root_of.ensures.counts)
+
+pub returns-in-Err-clause-counts : goal.returns-in-Err-clause-counts
+returns-in-Err-clause-counts g c = counts_then (went c.in_ok-root_of.ensures.counts) (counts_broken _ c.broken.ensures.answer c.broken.ensures.told c.broken.ensures.risen c.broken.ensures.rising)
+
+pub returns-in_err-remove-in-Ok-clause-counts : goal.returns-in_err-remove-in-Ok-clause-counts
+returns-in_err-remove-in-Ok-clause-counts g c =
+    let p = err_from_is_err_and c.from_residual-in_err-remove-in-Ok.result c.from_residual-in_err-remove-in-Ok.ensures.1 in
+    counts_err c.from_residual-in_err-remove-in-Ok.result _ p.0 p.1 p.2 (counts_then (went c.in_ok-root_of.ensures.counts) c.in_err-remove-in-Ok.ensures.counts)
+
+pub returns-in_err-free_all-in-Ok-clause-counts : goal.returns-in_err-free_all-in-Ok-clause-counts
+returns-in_err-free_all-in-Ok-clause-counts g c =
+    let p = err_from_is_err_and c.from_residual-in_err-free_all-in-Ok.result c.from_residual-in_err-free_all-in-Ok.ensures.1 in
+    counts_err c.from_residual-in_err-free_all-in-Ok.result _ p.0 p.1 p.2 (counts_then (went_then (went c.in_ok-root_of.ensures.counts) (went c.in_ok-remove-in-Ok.ensures.counts)) c.in_err-free_all-in-Ok.ensures.counts)
+
+pub returns-in_ok-free_all-in-Ok-clause-counts : goal.returns-in_ok-free_all-in-Ok-clause-counts
+returns-in_ok-free_all-in-Ok-clause-counts g c = counts_ok _ (went_then (went c.in_ok-root_of.ensures.counts) (went_then (went c.in_ok-remove-in-Ok.ensures.counts) (went c.in_ok-free_all-in-Ok.ensures.counts)))
+
+-- its records can still be read
+pub returns-in_err-root_of-clause-means : goal.returns-in_err-root_of-clause-means
+returns-in_err-root_of-clause-means g c = c.root_of.ensures.means _ c.requires.means
+
+pub returns-in-Err-clause-means : goal.returns-in-Err-clause-means
+returns-in-Err-clause-means g c = c.broken.ensures.means _ (c.root_of.ensures.means _ c.requires.means)
+
+pub returns-in_err-remove-in-Ok-clause-means : goal.returns-in_err-remove-in-Ok-clause-means
+returns-in_err-remove-in-Ok-clause-means g c = c.remove.ensures.means
+
+pub returns-in_err-free_all-in-Ok-clause-means : goal.returns-in_err-free_all-in-Ok-clause-means
+returns-in_err-free_all-in-Ok-clause-means g c = c.free_all.ensures.means _ c.remove.ensures.means
+
+pub returns-in_ok-free_all-in-Ok-clause-means : goal.returns-in_ok-free_all-in-Ok-clause-means
+returns-in_ok-free_all-in-Ok-clause-means g c = c.free_all.ensures.means _ c.remove.ensures.means
+
+-- how many records it wrote
+pub returns-in_err-root_of-clause-few : goal.returns-in_err-root_of-clause-few
+returns-in_err-root_of-clause-few g c = few_none (g.P.PageSpace.view c.args.space.now) (g.P.PageSpace.view c.root_of.new.space) _ c.root_of.ensures.writes.records
+
+pub returns-in-Err-clause-few : goal.returns-in-Err-clause-few
+returns-in-Err-clause-few g c = few_none (g.P.PageSpace.view c.args.space.now) (g.P.PageSpace.view c.broken.new.self) _ (c.broken.ensures.writes_none ∙ c.root_of.ensures.writes.records)
+
+pub returns-in_err-remove-in-Ok-clause-few : goal.returns-in_err-remove-in-Ok-clause-few
+returns-in_err-remove-in-Ok-clause-few g c = few_by (g.P.PageSpace.view c.args.space.now) (g.P.PageSpace.view c.remove.new.space) 1 _ (omega arith) (few_from (g.P.PageSpace.view c.args.space.now) (g.P.PageSpace.view c.root_of.new.space) (g.P.PageSpace.view c.remove.new.space) 1 c.root_of.ensures.writes.records c.remove.ensures.few)
+
+pub returns-in_err-free_all-in-Ok-clause-few : goal.returns-in_err-free_all-in-Ok-clause-few
+returns-in_err-free_all-in-Ok-clause-few g c = few_then (g.P.PageSpace.view c.args.space.now) (g.P.PageSpace.view c.remove.new.space) (g.P.PageSpace.view c.free_all.new.space) 1 501 (few_from (g.P.PageSpace.view c.args.space.now) (g.P.PageSpace.view c.root_of.new.space) (g.P.PageSpace.view c.remove.new.space) 1 c.root_of.ensures.writes.records c.remove.ensures.few) c.free_all.ensures.few
+
+pub returns-in_ok-free_all-in-Ok-clause-few : goal.returns-in_ok-free_all-in-Ok-clause-few
+returns-in_ok-free_all-in-Ok-clause-few g c = few_then (g.P.PageSpace.view c.args.space.now) (g.P.PageSpace.view c.remove.new.space) (g.P.PageSpace.view c.free_all.new.space) 1 501 (few_from (g.P.PageSpace.view c.args.space.now) (g.P.PageSpace.view c.root_of.new.space) (g.P.PageSpace.view c.remove.new.space) 1 c.root_of.ensures.writes.records c.remove.ensures.few) c.free_all.ensures.few
+
+-- and is the space later
+pub returns-in_err-root_of-clause-later : goal.returns-in_err-root_of-clause-later
+returns-in_err-root_of-clause-later g c = c.root_of.ensures.later _
+
+pub returns-in-Err-clause-did : goal.returns-in-Err-clause-did
+returns-in-Err-clause-did g c = tt

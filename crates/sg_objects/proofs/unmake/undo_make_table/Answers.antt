@@ -7,6 +7,8 @@ use Rattle.sg_objects.proofs.Bodies.{undone_from}
 use Rattle.sg_objects.proofs.Located.{still_contents}
 use Rattle.sg_objects.proofs.Raising.{has_row, undo_make_done}
 use Rattle.sg_objects.proofs.Unmaking.{left_table, table_gone, body_went}
+use Rattle.std.proofs.lemmas.Result.{err_from_is_err_and}
+use Rattle.sg_objects.proofs.Counting.{went, went_then, counts_ok, counts_then, counts_err, counts_broken}
 use Rattle.sg_objects.proofs.unmake.undo_make_table.Goals as goal
 
 pub free_all-requires : goal.free_all-requires
@@ -69,3 +71,48 @@ returns-in_ok-free_all-in-Ok-clause-few g c = λ told.
     let removed = c.remove.ensures.few in
     let read = c.root_of.ensures.writes.records in
     omega (arith, most, freed, removed, read)
+
+-- how often it failed
+pub returns-in_err-root_of-clause-counts : goal.returns-in_err-root_of-clause-counts
+returns-in_err-root_of-clause-counts g c =
+    let p = err_from_is_err_and c.from_residual.result c.from_residual.ensures.1 in
+    counts_err c.from_residual.result _ p.0 p.1 p.2 (c.in_err-root_of.ensures.counts)
+
+pub returns-in-Err-clause-counts : goal.returns-in-Err-clause-counts
+returns-in-Err-clause-counts g c = counts_then (went c.in_ok-root_of.ensures.counts) (counts_broken _ c.broken.ensures.answer c.broken.ensures.told c.broken.ensures.risen c.broken.ensures.rising)
+
+pub returns-in_err-remove-in-Ok-clause-counts : goal.returns-in_err-remove-in-Ok-clause-counts
+returns-in_err-remove-in-Ok-clause-counts g c =
+    let p = err_from_is_err_and c.from_residual-in_err-remove-in-Ok.result c.from_residual-in_err-remove-in-Ok.ensures.1 in
+    counts_err c.from_residual-in_err-remove-in-Ok.result _ p.0 p.1 p.2 (counts_then (went c.in_ok-root_of.ensures.counts) c.in_err-remove-in-Ok.ensures.counts)
+
+pub returns-in_err-free_all-in-Ok-clause-counts : goal.returns-in_err-free_all-in-Ok-clause-counts
+returns-in_err-free_all-in-Ok-clause-counts g c =
+    let p = err_from_is_err_and c.from_residual-in_err-free_all-in-Ok.result c.from_residual-in_err-free_all-in-Ok.ensures.1 in
+    counts_err c.from_residual-in_err-free_all-in-Ok.result _ p.0 p.1 p.2 (counts_then (went_then (went c.in_ok-root_of.ensures.counts) (went c.in_ok-remove-in-Ok.ensures.counts)) c.in_err-free_all-in-Ok.ensures.counts)
+
+pub returns-in_ok-free_all-in-Ok-clause-counts : goal.returns-in_ok-free_all-in-Ok-clause-counts
+returns-in_ok-free_all-in-Ok-clause-counts g c = counts_ok _ (went_then (went c.in_ok-root_of.ensures.counts) (went_then (went c.in_ok-remove-in-Ok.ensures.counts) (went c.in_ok-free_all-in-Ok.ensures.counts)))
+
+-- its records can still be read
+pub returns-in_err-root_of-clause-means : goal.returns-in_err-root_of-clause-means
+returns-in_err-root_of-clause-means g c = c.root_of.ensures.means _ c.requires.means
+
+pub returns-in-Err-clause-means : goal.returns-in-Err-clause-means
+returns-in-Err-clause-means g c = c.broken.ensures.means _ (c.root_of.ensures.means _ c.requires.means)
+
+pub returns-in_err-remove-in-Ok-clause-means : goal.returns-in_err-remove-in-Ok-clause-means
+returns-in_err-remove-in-Ok-clause-means g c = c.remove.ensures.means
+
+pub returns-in_err-free_all-in-Ok-clause-means : goal.returns-in_err-free_all-in-Ok-clause-means
+returns-in_err-free_all-in-Ok-clause-means g c = c.free_all.ensures.means _ c.remove.ensures.means
+
+pub returns-in_ok-free_all-in-Ok-clause-means : goal.returns-in_ok-free_all-in-Ok-clause-means
+returns-in_ok-free_all-in-Ok-clause-means g c = c.free_all.ensures.means _ c.remove.ensures.means
+
+-- and is the space later
+pub returns-in_err-root_of-clause-later : goal.returns-in_err-root_of-clause-later
+returns-in_err-root_of-clause-later g c = c.root_of.ensures.later _
+
+pub returns-in-Err-clause-did : goal.returns-in-Err-clause-did
+returns-in-Err-clause-did g c = tt
