@@ -1,5 +1,7 @@
 -- What calls one after another come to: how often the space failed, and how many records they wrote.
 use Rattle.std.proofs.Common.{◌≡◌, ℕ, ◌+◌, ◌≤◌, Result, Ok, Err, OnOk, IfOk, IfErr, sym, ◌∙◌, subst, arith}
+use Rattle.std.specs.Prelude.{IsErrAnd}
+use Rattle.std.proofs.lemmas.Result.{err_from_is_err_and}
 use Rattle.sg_base.specs.Ends.{HasRisen}
 use Rattle.sg_space.specs.View.{View, Counts}
 use Rattle.sg_space.specs.declared.space.SpaceFault.{SpaceFault}
@@ -49,6 +51,14 @@ counts_err {T} {U} {old} {new} r f e is same k =
 -- which leaves no result of which anything is said
 pub no_ok : {T : Type 0} (P : T → Type 0) (r : Result T SpaceFault) (e : SpaceFault) → r ≡ Err e → IfOk r P
 no_ok {T} P r e is = subst (λ (q : Result T SpaceFault). IfOk q P) (sym is) tt
+
+-- both of a result that hands a call's failure on
+pub no_ok_handed : {T : Type 0} (f : SpaceFault) (P : T → Type 0) (r : Result T SpaceFault) → IsErrAnd r (λ e. e ≡ f) → IfOk r P
+no_ok_handed f P r handed = let p = err_from_is_err_and r handed in no_ok P r p.0 p.1
+
+pub counts_handed : {T U : Type 0} {old new : View} (r : Result U SpaceFault) (f : SpaceFault) → IsErrAnd r (λ e. e ≡ f)
+    → Counts {T = T} old new (Err f) → Counts {T = U} old new r
+counts_handed r f handed k = let p = err_from_is_err_and r handed in counts_err r f p.0 p.1 p.2 k
 
 -- or a report that what was read can't be
 pub counts_broken : {T : Type 0} {old new : View} (f : SpaceFault) → f ≡ Disk → (new.Told → old.Told) → HasRisen old.faults new.faults

@@ -2,8 +2,7 @@ use Rattle.sg_model.specs.Verb.Verb.{Apply}
 use Rattle.sg_objects.proofs.Located.{still_contents, array_at}
 use Rattle.sg_objects.proofs.Applying.{refused_by, can_apply, apply_done}
 use Rattle.sg_objects.proofs.Bodies.{from_start}
-use Rattle.std.proofs.lemmas.Result.{err_from_is_err_and}
-use Rattle.sg_objects.proofs.Counting.{went, went_then, counts_ok, counts_then, counts_err, no_ok, few_none, few_from}
+use Rattle.sg_objects.proofs.Counting.{went, went_then, counts_ok, counts_then, few_none, few_from, no_ok_handed, counts_handed}
 use Rattle.sg_objects.proofs.apply.apply.Goals as goal
 
 pub returns-in-Err-clause-did : goal.returns-in-Err-clause-did
@@ -45,16 +44,14 @@ returns-in_ok-apply-in-Ok-clause-later g c = let then = g.met.P.PageSpace.later_
 -- how often it failed
 pub returns-in_err-reason-clause-counts : goal.returns-in_err-reason-clause-counts
 returns-in_err-reason-clause-counts g c =
-    let p = err_from_is_err_and c.from_residual.result c.from_residual.ensures.1 in
-    counts_err c.from_residual.result _ p.0 p.1 p.2 (c.in_err-reason.ensures.counts)
+    counts_handed c.from_residual.result _ c.from_residual.ensures.1 (c.in_err-reason.ensures.counts)
 
 pub returns-in-Err-clause-counts : goal.returns-in-Err-clause-counts
 returns-in-Err-clause-counts g c = counts_ok _ (went c.in_ok-reason.ensures.counts)
 
 pub returns-in_err-apply-in-Ok-clause-counts : goal.returns-in_err-apply-in-Ok-clause-counts
 returns-in_err-apply-in-Ok-clause-counts g c =
-    let p = err_from_is_err_and c.from_residual-in_err-apply-in-Ok.result c.from_residual-in_err-apply-in-Ok.ensures.1 in
-    counts_err c.from_residual-in_err-apply-in-Ok.result _ p.0 p.1 p.2 (counts_then (went c.in_ok-reason.ensures.counts) c.in_err-apply-in-Ok.ensures.counts)
+    counts_handed c.from_residual-in_err-apply-in-Ok.result _ c.from_residual-in_err-apply-in-Ok.ensures.1 (counts_then (went c.in_ok-reason.ensures.counts) c.in_err-apply-in-Ok.ensures.counts)
 
 pub returns-in_ok-apply-in-Ok-clause-counts : goal.returns-in_ok-apply-in-Ok-clause-counts
 returns-in_ok-apply-in-Ok-clause-counts g c = counts_ok _ (went_then (went c.in_ok-reason.ensures.counts) (went c.in_ok-apply-in-Ok.ensures.counts))
@@ -90,24 +87,16 @@ pub returns-in-Err-clause-quiet : goal.returns-in-Err-clause-quiet
 returns-in-Err-clause-quiet g c = λ _. record { records = c.check_apply.ensures.writes.records; still = c.in_ok-reason.ensures.kept.still }
 
 pub returns-in_err-reason-clause-did : goal.returns-in_err-reason-clause-did
-returns-in_err-reason-clause-did g c =
-    let p = err_from_is_err_and c.from_residual.result c.from_residual.ensures.1 in
-    no_ok _ c.from_residual.result p.0 p.1
+returns-in_err-reason-clause-did g c = no_ok_handed _ _ c.from_residual.result c.from_residual.ensures.1
 
 pub returns-in_err-reason-clause-quiet : goal.returns-in_err-reason-clause-quiet
-returns-in_err-reason-clause-quiet g c =
-    let p = err_from_is_err_and c.from_residual.result c.from_residual.ensures.1 in
-    no_ok _ c.from_residual.result p.0 p.1
+returns-in_err-reason-clause-quiet g c = no_ok_handed _ _ c.from_residual.result c.from_residual.ensures.1
 
 pub returns-in_err-apply-in-Ok-clause-did : goal.returns-in_err-apply-in-Ok-clause-did
-returns-in_err-apply-in-Ok-clause-did g c =
-    let p = err_from_is_err_and c.from_residual-in_err-apply-in-Ok.result c.from_residual-in_err-apply-in-Ok.ensures.1 in
-    no_ok _ c.from_residual-in_err-apply-in-Ok.result p.0 p.1
+returns-in_err-apply-in-Ok-clause-did g c = no_ok_handed _ _ c.from_residual-in_err-apply-in-Ok.result c.from_residual-in_err-apply-in-Ok.ensures.1
 
 pub returns-in_err-apply-in-Ok-clause-quiet : goal.returns-in_err-apply-in-Ok-clause-quiet
-returns-in_err-apply-in-Ok-clause-quiet g c =
-    let p = err_from_is_err_and c.from_residual-in_err-apply-in-Ok.result c.from_residual-in_err-apply-in-Ok.ensures.1 in
-    no_ok _ c.from_residual-in_err-apply-in-Ok.result p.0 p.1
+returns-in_err-apply-in-Ok-clause-quiet g c = no_ok_handed _ _ c.from_residual-in_err-apply-in-Ok.result c.from_residual-in_err-apply-in-Ok.ensures.1
 
 -- and is the space later
 pub returns-in_err-reason-clause-later : goal.returns-in_err-reason-clause-later

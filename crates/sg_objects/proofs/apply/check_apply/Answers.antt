@@ -7,8 +7,7 @@ use Rattle.sg_objects.proofs.Located.{still_contents, array_at}
 use Rattle.sg_objects.proofs.Refused.{missing_array}
 use Rattle.sg_objects.proofs.Pushing.{items_of}
 use Rattle.sg_objects.proofs.Applying.{checked_ok, checked_err, can_apply_to, refuse_apply, long_apply, past_apply, unnamed_apply, above_codes, unregistered, declined_apply}
-use Rattle.std.proofs.lemmas.Result.{err_from_is_err_and}
-use Rattle.sg_objects.proofs.Counting.{went, went_then, counts_ok, counts_then, counts_err, no_ok}
+use Rattle.sg_objects.proofs.Counting.{went, went_then, counts_ok, counts_then, no_ok_handed, counts_handed}
 use Rattle.sg_objects.proofs.apply.check_apply.Goals as goal
 
 pub returns-in-Err-clause-read : goal.returns-in-Err-clause-read
@@ -72,8 +71,7 @@ returns-else-not-accepts-clause-later g c = λ t. g.met.P.PageSpace.later_then t
 -- how often it failed
 pub returns-in_err-reason-clause-counts : goal.returns-in_err-reason-clause-counts
 returns-in_err-reason-clause-counts g c =
-    let p = err_from_is_err_and c.from_residual.result c.from_residual.ensures.1 in
-    counts_err c.from_residual.result _ p.0 p.1 p.2 (c.in_err-reason.ensures.counts)
+    counts_handed c.from_residual.result _ c.from_residual.ensures.1 (c.in_err-reason.ensures.counts)
 
 pub returns-in-Err-clause-counts : goal.returns-in-Err-clause-counts
 returns-in-Err-clause-counts g c = counts_ok _ (went c.in_ok-reason.ensures.counts)
@@ -92,8 +90,7 @@ returns-then-not-has_record-clause-counts g c = counts_ok _ (went c.in_ok-reason
 
 pub returns-in_err-get-in-Ok-clause-counts : goal.returns-in_err-get-in-Ok-clause-counts
 returns-in_err-get-in-Ok-clause-counts g c =
-    let p = err_from_is_err_and c.from_residual-in_err-get-in-Ok.result c.from_residual-in_err-get-in-Ok.ensures.1 in
-    counts_err c.from_residual-in_err-get-in-Ok.result _ p.0 p.1 p.2 (counts_then (went c.in_ok-reason.ensures.counts) c.in_err-get-in-Ok.ensures.counts)
+    counts_handed c.from_residual-in_err-get-in-Ok.result _ c.from_residual-in_err-get-in-Ok.ensures.1 (counts_then (went c.in_ok-reason.ensures.counts) c.in_err-get-in-Ok.ensures.counts)
 
 pub returns-then-not-accepts-clause-counts : goal.returns-then-not-accepts-clause-counts
 returns-then-not-accepts-clause-counts g c = counts_ok _ (went_then (went c.in_ok-reason.ensures.counts) (went c.in_ok-get-in-Ok.ensures.counts))
@@ -240,41 +237,25 @@ pub returns-then-not-accepts-clause-code : goal.returns-then-not-accepts-clause-
 returns-then-not-accepts-clause-code g c = tt
 
 pub returns-in_err-reason-clause-read : goal.returns-in_err-reason-clause-read
-returns-in_err-reason-clause-read g c =
-    let p = err_from_is_err_and c.from_residual.result c.from_residual.ensures.1 in
-    no_ok _ c.from_residual.result p.0 p.1
+returns-in_err-reason-clause-read g c = no_ok_handed _ _ c.from_residual.result c.from_residual.ensures.1
 
 pub returns-in_err-reason-clause-below : goal.returns-in_err-reason-clause-below
-returns-in_err-reason-clause-below g c =
-    let p = err_from_is_err_and c.from_residual.result c.from_residual.ensures.1 in
-    no_ok _ c.from_residual.result p.0 p.1
+returns-in_err-reason-clause-below g c = no_ok_handed _ _ c.from_residual.result c.from_residual.ensures.1
 
 pub returns-in_err-reason-clause-short : goal.returns-in_err-reason-clause-short
-returns-in_err-reason-clause-short g c =
-    let p = err_from_is_err_and c.from_residual.result c.from_residual.ensures.1 in
-    no_ok _ c.from_residual.result p.0 p.1
+returns-in_err-reason-clause-short g c = no_ok_handed _ _ c.from_residual.result c.from_residual.ensures.1
 
 pub returns-in_err-reason-clause-code : goal.returns-in_err-reason-clause-code
-returns-in_err-reason-clause-code g c =
-    let p = err_from_is_err_and c.from_residual.result c.from_residual.ensures.1 in
-    no_ok _ c.from_residual.result p.0 p.1
+returns-in_err-reason-clause-code g c = no_ok_handed _ _ c.from_residual.result c.from_residual.ensures.1
 
 pub returns-in_err-get-in-Ok-clause-read : goal.returns-in_err-get-in-Ok-clause-read
-returns-in_err-get-in-Ok-clause-read g c =
-    let p = err_from_is_err_and c.from_residual-in_err-get-in-Ok.result c.from_residual-in_err-get-in-Ok.ensures.1 in
-    no_ok _ c.from_residual-in_err-get-in-Ok.result p.0 p.1
+returns-in_err-get-in-Ok-clause-read g c = no_ok_handed _ _ c.from_residual-in_err-get-in-Ok.result c.from_residual-in_err-get-in-Ok.ensures.1
 
 pub returns-in_err-get-in-Ok-clause-below : goal.returns-in_err-get-in-Ok-clause-below
-returns-in_err-get-in-Ok-clause-below g c =
-    let p = err_from_is_err_and c.from_residual-in_err-get-in-Ok.result c.from_residual-in_err-get-in-Ok.ensures.1 in
-    no_ok _ c.from_residual-in_err-get-in-Ok.result p.0 p.1
+returns-in_err-get-in-Ok-clause-below g c = no_ok_handed _ _ c.from_residual-in_err-get-in-Ok.result c.from_residual-in_err-get-in-Ok.ensures.1
 
 pub returns-in_err-get-in-Ok-clause-short : goal.returns-in_err-get-in-Ok-clause-short
-returns-in_err-get-in-Ok-clause-short g c =
-    let p = err_from_is_err_and c.from_residual-in_err-get-in-Ok.result c.from_residual-in_err-get-in-Ok.ensures.1 in
-    no_ok _ c.from_residual-in_err-get-in-Ok.result p.0 p.1
+returns-in_err-get-in-Ok-clause-short g c = no_ok_handed _ _ c.from_residual-in_err-get-in-Ok.result c.from_residual-in_err-get-in-Ok.ensures.1
 
 pub returns-in_err-get-in-Ok-clause-code : goal.returns-in_err-get-in-Ok-clause-code
-returns-in_err-get-in-Ok-clause-code g c =
-    let p = err_from_is_err_and c.from_residual-in_err-get-in-Ok.result c.from_residual-in_err-get-in-Ok.ensures.1 in
-    no_ok _ c.from_residual-in_err-get-in-Ok.result p.0 p.1
+returns-in_err-get-in-Ok-clause-code g c = no_ok_handed _ _ c.from_residual-in_err-get-in-Ok.result c.from_residual-in_err-get-in-Ok.ensures.1

@@ -7,8 +7,7 @@ use Rattle.sg_objects.proofs.Located.{still_contents, array_at}
 use Rattle.sg_objects.proofs.Doing.{refused_did}
 use Rattle.sg_objects.proofs.Others.{can_get, get_done}
 use Rattle.sg_objects.proofs.Bodies.{from_start}
-use Rattle.std.proofs.lemmas.Result.{err_from_is_err_and}
-use Rattle.sg_objects.proofs.Counting.{went, went_then, counts_ok, counts_then, counts_err, no_ok}
+use Rattle.sg_objects.proofs.Counting.{went, went_then, counts_ok, counts_then, no_ok_handed, counts_handed}
 use Rattle.sg_objects.proofs.array.get.Goals as goal
 
 pub returns-in-Err-clause-did : goal.returns-in-Err-clause-did
@@ -51,16 +50,14 @@ returns-in_ok-get-in-Ok-clause-later g c = let then = g.met.P.PageSpace.later_th
 -- how often it failed
 pub returns-in_err-reason-clause-counts : goal.returns-in_err-reason-clause-counts
 returns-in_err-reason-clause-counts g c =
-    let p = err_from_is_err_and c.from_residual.result c.from_residual.ensures.1 in
-    counts_err c.from_residual.result _ p.0 p.1 p.2 (c.in_err-reason.ensures.counts)
+    counts_handed c.from_residual.result _ c.from_residual.ensures.1 (c.in_err-reason.ensures.counts)
 
 pub returns-in-Err-clause-counts : goal.returns-in-Err-clause-counts
 returns-in-Err-clause-counts g c = counts_ok _ (went c.in_ok-reason.ensures.counts)
 
 pub returns-in_err-get-in-Ok-clause-counts : goal.returns-in_err-get-in-Ok-clause-counts
 returns-in_err-get-in-Ok-clause-counts g c =
-    let p = err_from_is_err_and c.from_residual-in_err-get-in-Ok.result c.from_residual-in_err-get-in-Ok.ensures.1 in
-    counts_err c.from_residual-in_err-get-in-Ok.result _ p.0 p.1 p.2 (counts_then (went c.in_ok-reason.ensures.counts) c.in_err-get-in-Ok.ensures.counts)
+    counts_handed c.from_residual-in_err-get-in-Ok.result _ c.from_residual-in_err-get-in-Ok.ensures.1 (counts_then (went c.in_ok-reason.ensures.counts) c.in_err-get-in-Ok.ensures.counts)
 
 pub returns-in_ok-get-in-Ok-clause-counts : goal.returns-in_ok-get-in-Ok-clause-counts
 returns-in_ok-get-in-Ok-clause-counts g c = counts_ok _ (went_then (went c.in_ok-reason.ensures.counts) (went c.in_ok-get-in-Ok.ensures.counts))
@@ -93,24 +90,16 @@ returns-in_ok-get-in-Ok-clause-looks g c = record { writes = record { only_disk 
 
 -- nothing is said of a result where there is none
 pub returns-in_err-reason-clause-did : goal.returns-in_err-reason-clause-did
-returns-in_err-reason-clause-did g c =
-    let p = err_from_is_err_and c.from_residual.result c.from_residual.ensures.1 in
-    no_ok _ c.from_residual.result p.0 p.1
+returns-in_err-reason-clause-did g c = no_ok_handed _ _ c.from_residual.result c.from_residual.ensures.1
 
 pub returns-in_err-reason-clause-quiet : goal.returns-in_err-reason-clause-quiet
-returns-in_err-reason-clause-quiet g c =
-    let p = err_from_is_err_and c.from_residual.result c.from_residual.ensures.1 in
-    no_ok _ c.from_residual.result p.0 p.1
+returns-in_err-reason-clause-quiet g c = no_ok_handed _ _ c.from_residual.result c.from_residual.ensures.1
 
 pub returns-in_err-get-in-Ok-clause-did : goal.returns-in_err-get-in-Ok-clause-did
-returns-in_err-get-in-Ok-clause-did g c =
-    let p = err_from_is_err_and c.from_residual-in_err-get-in-Ok.result c.from_residual-in_err-get-in-Ok.ensures.1 in
-    no_ok _ c.from_residual-in_err-get-in-Ok.result p.0 p.1
+returns-in_err-get-in-Ok-clause-did g c = no_ok_handed _ _ c.from_residual-in_err-get-in-Ok.result c.from_residual-in_err-get-in-Ok.ensures.1
 
 pub returns-in_err-get-in-Ok-clause-quiet : goal.returns-in_err-get-in-Ok-clause-quiet
-returns-in_err-get-in-Ok-clause-quiet g c =
-    let p = err_from_is_err_and c.from_residual-in_err-get-in-Ok.result c.from_residual-in_err-get-in-Ok.ensures.1 in
-    no_ok _ c.from_residual-in_err-get-in-Ok.result p.0 p.1
+returns-in_err-get-in-Ok-clause-quiet g c = no_ok_handed _ _ c.from_residual-in_err-get-in-Ok.result c.from_residual-in_err-get-in-Ok.ensures.1
 
 -- and is the space later
 pub returns-in_err-reason-clause-later : goal.returns-in_err-reason-clause-later

@@ -1,6 +1,5 @@
 use Rattle.sg_objects.proofs.Raising.{was_tomb, can_raise, undo_drop_done}
-use Rattle.std.proofs.lemmas.Result.{err_from_is_err_and}
-use Rattle.sg_objects.proofs.Counting.{went, counts_ok, counts_err}
+use Rattle.sg_objects.proofs.Counting.{went, counts_ok, counts_handed}
 use Rattle.sg_objects.proofs.back.undo_drop.Goals as goal
 
 pub unbury-requires-clause-can : goal.unbury-requires-clause-can
@@ -25,8 +24,7 @@ unbury-requires-clause-means g c = c.requires.means
 
 pub returns-in_err-unbury-clause-counts : goal.returns-in_err-unbury-clause-counts
 returns-in_err-unbury-clause-counts g c =
-    let p = err_from_is_err_and c.from_residual.result c.from_residual.ensures.1 in
-    counts_err c.from_residual.result _ p.0 p.1 p.2 (c.in_err-unbury.ensures.counts)
+    counts_handed c.from_residual.result _ c.from_residual.ensures.1 (c.in_err-unbury.ensures.counts)
 
 pub returns-clause-counts : goal.returns-clause-counts
 returns-clause-counts g c = counts_ok _ (went c.in_ok-unbury.ensures.counts)

@@ -8,8 +8,7 @@ use Rattle.sg_objects.proofs.Located.{still_contents}
 use Rattle.sg_objects.proofs.Checks.{array_there}
 use Rattle.sg_objects.proofs.Undoing.{not_missing, carried_at, set_below, undo_set_done}
 use Rattle.sg_objects.proofs.Bodies.{undone_from}
-use Rattle.std.proofs.lemmas.Result.{err_from_is_err_and}
-use Rattle.sg_objects.proofs.Counting.{went, went_then, counts_ok, counts_then, counts_err, counts_broken, few_none, few_from}
+use Rattle.sg_objects.proofs.Counting.{went, went_then, counts_ok, counts_then, counts_broken, few_none, few_from, counts_handed}
 use Rattle.sg_objects.proofs.back.undo_set.Goals as goal
 
 pub broken-requires : goal.broken-requires
@@ -63,16 +62,14 @@ returns-in_ok-set-in-Ok-clause-later g c = let then = g.met.P.PageSpace.later_th
 -- how often it failed
 pub returns-in_err-root_of-clause-counts : goal.returns-in_err-root_of-clause-counts
 returns-in_err-root_of-clause-counts g c =
-    let p = err_from_is_err_and c.from_residual.result c.from_residual.ensures.1 in
-    counts_err c.from_residual.result _ p.0 p.1 p.2 (c.in_err-root_of.ensures.counts)
+    counts_handed c.from_residual.result _ c.from_residual.ensures.1 (c.in_err-root_of.ensures.counts)
 
 pub returns-in-Err-clause-counts : goal.returns-in-Err-clause-counts
 returns-in-Err-clause-counts g c = counts_then (went c.in_ok-root_of.ensures.counts) (counts_broken _ c.broken.ensures.answer c.broken.ensures.told c.broken.ensures.risen c.broken.ensures.rising)
 
 pub returns-in_err-set-in-Ok-clause-counts : goal.returns-in_err-set-in-Ok-clause-counts
 returns-in_err-set-in-Ok-clause-counts g c =
-    let p = err_from_is_err_and c.from_residual-in_err-set-in-Ok.result c.from_residual-in_err-set-in-Ok.ensures.1 in
-    counts_err c.from_residual-in_err-set-in-Ok.result _ p.0 p.1 p.2 (counts_then (went c.in_ok-root_of.ensures.counts) c.in_err-set-in-Ok.ensures.counts)
+    counts_handed c.from_residual-in_err-set-in-Ok.result _ c.from_residual-in_err-set-in-Ok.ensures.1 (counts_then (went c.in_ok-root_of.ensures.counts) c.in_err-set-in-Ok.ensures.counts)
 
 pub returns-in_ok-set-in-Ok-clause-counts : goal.returns-in_ok-set-in-Ok-clause-counts
 returns-in_ok-set-in-Ok-clause-counts g c = counts_ok _ (went_then (went c.in_ok-root_of.ensures.counts) (went c.in_ok-set-in-Ok.ensures.counts))

@@ -1,6 +1,5 @@
 use Rattle.sg_objects.proofs.Freeing.{array_frees, table_frees, blob_frees}
-use Rattle.std.proofs.lemmas.Result.{err_from_is_err_and}
-use Rattle.sg_objects.proofs.Counting.{went, counts_ok, counts_err}
+use Rattle.sg_objects.proofs.Counting.{went, counts_ok, counts_handed}
 use Rattle.sg_objects.proofs.free.free_body.Goals as goal
 
 pub returns-in_ok-free_all-in-Array-clause-did : goal.returns-in_ok-free_all-in-Array-clause-did
@@ -15,8 +14,7 @@ returns-in_ok-free_all-in-Blob-clause-did g c = blob_frees c.in-Blob.is c.in_ok-
 -- each call says the rest of it
 pub returns-in_err-free_all-in-Array-clause-counts : goal.returns-in_err-free_all-in-Array-clause-counts
 returns-in_err-free_all-in-Array-clause-counts g c =
-    let p = err_from_is_err_and c.from_residual.result c.from_residual.ensures.1 in
-    counts_err c.from_residual.result _ p.0 p.1 p.2 (c.in_err-free_all-in-Array.ensures.counts)
+    counts_handed c.from_residual.result _ c.from_residual.ensures.1 (c.in_err-free_all-in-Array.ensures.counts)
 
 pub returns-in_ok-free_all-in-Array-clause-counts : goal.returns-in_ok-free_all-in-Array-clause-counts
 returns-in_ok-free_all-in-Array-clause-counts g c = counts_ok _ (went c.in_ok-free_all-in-Array.ensures.counts)
@@ -35,8 +33,7 @@ returns-in_ok-free_all-in-Array-clause-means g c = c.free_all.ensures.means
 
 pub returns-in_err-free_all-in-Table-clause-counts : goal.returns-in_err-free_all-in-Table-clause-counts
 returns-in_err-free_all-in-Table-clause-counts g c =
-    let p = err_from_is_err_and c.from_residual-in_err-free_all-in-Table.result c.from_residual-in_err-free_all-in-Table.ensures.1 in
-    counts_err c.from_residual-in_err-free_all-in-Table.result _ p.0 p.1 p.2 (c.in_err-free_all-in-Table.ensures.counts)
+    counts_handed c.from_residual-in_err-free_all-in-Table.result _ c.from_residual-in_err-free_all-in-Table.ensures.1 (c.in_err-free_all-in-Table.ensures.counts)
 
 pub returns-in_ok-free_all-in-Table-clause-counts : goal.returns-in_ok-free_all-in-Table-clause-counts
 returns-in_ok-free_all-in-Table-clause-counts g c = counts_ok _ (went c.in_ok-free_all-in-Table.ensures.counts)
@@ -55,8 +52,7 @@ returns-in_ok-free_all-in-Table-clause-means g c = c.free_all-in-Table.ensures.m
 
 pub returns-in_err-free_all-in-Blob-clause-counts : goal.returns-in_err-free_all-in-Blob-clause-counts
 returns-in_err-free_all-in-Blob-clause-counts g c =
-    let p = err_from_is_err_and c.from_residual-in_err-free_all-in-Blob.result c.from_residual-in_err-free_all-in-Blob.ensures.1 in
-    counts_err c.from_residual-in_err-free_all-in-Blob.result _ p.0 p.1 p.2 (c.in_err-free_all-in-Blob.ensures.counts)
+    counts_handed c.from_residual-in_err-free_all-in-Blob.result _ c.from_residual-in_err-free_all-in-Blob.ensures.1 (c.in_err-free_all-in-Blob.ensures.counts)
 
 pub returns-in_ok-free_all-in-Blob-clause-counts : goal.returns-in_ok-free_all-in-Blob-clause-counts
 returns-in_ok-free_all-in-Blob-clause-counts g c = counts_ok _ (went c.in_ok-free_all-in-Blob.ensures.counts)

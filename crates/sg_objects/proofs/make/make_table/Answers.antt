@@ -8,9 +8,8 @@ use Rattle.sg_objects.proofs.Fresh.{still_fresh}
 use Rattle.sg_objects.proofs.Making.{is_found, not_there}
 use Rattle.sg_objects.proofs.Tabled.{table_exists, can_make_table, can_add_table, make_table_done}
 use Rattle.sg_objects.proofs.Bodies.{from_start, noted_some}
-use Rattle.std.proofs.lemmas.Result.{err_from_is_err_and}
 use Rattle.sg_reading.specs.Back.Undoing.{WasMake}
-use Rattle.sg_objects.proofs.Counting.{went, went_then, counts_ok, counts_then, counts_err, no_ok, few_by, few_none, few_then, few_from}
+use Rattle.sg_objects.proofs.Counting.{went, went_then, counts_ok, counts_then, few_by, few_none, few_then, few_from, no_ok_handed, counts_handed}
 use Rattle.sg_objects.proofs.make.make_table.Goals as goal
 
 pub returns-then-branch-clause-did : goal.returns-then-branch-clause-did
@@ -70,21 +69,18 @@ returns-clause-later g c = let then = g.met.P.PageSpace.later_then _ in then _ _
 -- how often it failed
 pub returns-in_err-is_there-clause-counts : goal.returns-in_err-is_there-clause-counts
 returns-in_err-is_there-clause-counts g c =
-    let p = err_from_is_err_and c.from_residual.result c.from_residual.ensures.1 in
-    counts_err c.from_residual.result _ p.0 p.1 p.2 (c.in_err-is_there.ensures.counts)
+    counts_handed c.from_residual.result _ c.from_residual.ensures.1 (c.in_err-is_there.ensures.counts)
 
 pub returns-then-branch-clause-counts : goal.returns-then-branch-clause-counts
 returns-then-branch-clause-counts g c = counts_ok _ (went c.in_ok-is_there.ensures.counts)
 
 pub returns-in_err-root-clause-counts : goal.returns-in_err-root-clause-counts
 returns-in_err-root-clause-counts g c =
-    let p = err_from_is_err_and c.from_residual-in_err-root.result c.from_residual-in_err-root.ensures.1 in
-    counts_err c.from_residual-in_err-root.result _ p.0 p.1 p.2 (counts_then (went c.in_ok-is_there.ensures.counts) c.in_err-root.ensures.counts)
+    counts_handed c.from_residual-in_err-root.result _ c.from_residual-in_err-root.ensures.1 (counts_then (went c.in_ok-is_there.ensures.counts) c.in_err-root.ensures.counts)
 
 pub returns-in_err-add-clause-counts : goal.returns-in_err-add-clause-counts
 returns-in_err-add-clause-counts g c =
-    let p = err_from_is_err_and c.from_residual-in_err-add.result c.from_residual-in_err-add.ensures.1 in
-    counts_err c.from_residual-in_err-add.result _ p.0 p.1 p.2 (counts_then (went_then (went c.in_ok-is_there.ensures.counts) (went c.in_ok-root.ensures.counts)) c.in_err-add.ensures.counts)
+    counts_handed c.from_residual-in_err-add.result _ c.from_residual-in_err-add.ensures.1 (counts_then (went_then (went c.in_ok-is_there.ensures.counts) (went c.in_ok-root.ensures.counts)) c.in_err-add.ensures.counts)
 
 pub returns-clause-counts : goal.returns-clause-counts
 returns-clause-counts g c = counts_ok _ (went_then (went c.in_ok-is_there.ensures.counts) (went_then (went c.in_ok-root.ensures.counts) (went c.in_ok-add.ensures.counts)))
@@ -130,34 +126,22 @@ returns-clause-quiet g c = λ e. absurd (noted_some c.args.name WasMake tt c.not
 
 -- nothing is said of a result where there is none
 pub returns-in_err-is_there-clause-did : goal.returns-in_err-is_there-clause-did
-returns-in_err-is_there-clause-did g c =
-    let p = err_from_is_err_and c.from_residual.result c.from_residual.ensures.1 in
-    no_ok _ c.from_residual.result p.0 p.1
+returns-in_err-is_there-clause-did g c = no_ok_handed _ _ c.from_residual.result c.from_residual.ensures.1
 
 pub returns-in_err-is_there-clause-quiet : goal.returns-in_err-is_there-clause-quiet
-returns-in_err-is_there-clause-quiet g c =
-    let p = err_from_is_err_and c.from_residual.result c.from_residual.ensures.1 in
-    no_ok _ c.from_residual.result p.0 p.1
+returns-in_err-is_there-clause-quiet g c = no_ok_handed _ _ c.from_residual.result c.from_residual.ensures.1
 
 pub returns-in_err-root-clause-did : goal.returns-in_err-root-clause-did
-returns-in_err-root-clause-did g c =
-    let p = err_from_is_err_and c.from_residual-in_err-root.result c.from_residual-in_err-root.ensures.1 in
-    no_ok _ c.from_residual-in_err-root.result p.0 p.1
+returns-in_err-root-clause-did g c = no_ok_handed _ _ c.from_residual-in_err-root.result c.from_residual-in_err-root.ensures.1
 
 pub returns-in_err-root-clause-quiet : goal.returns-in_err-root-clause-quiet
-returns-in_err-root-clause-quiet g c =
-    let p = err_from_is_err_and c.from_residual-in_err-root.result c.from_residual-in_err-root.ensures.1 in
-    no_ok _ c.from_residual-in_err-root.result p.0 p.1
+returns-in_err-root-clause-quiet g c = no_ok_handed _ _ c.from_residual-in_err-root.result c.from_residual-in_err-root.ensures.1
 
 pub returns-in_err-add-clause-did : goal.returns-in_err-add-clause-did
-returns-in_err-add-clause-did g c =
-    let p = err_from_is_err_and c.from_residual-in_err-add.result c.from_residual-in_err-add.ensures.1 in
-    no_ok _ c.from_residual-in_err-add.result p.0 p.1
+returns-in_err-add-clause-did g c = no_ok_handed _ _ c.from_residual-in_err-add.result c.from_residual-in_err-add.ensures.1
 
 pub returns-in_err-add-clause-quiet : goal.returns-in_err-add-clause-quiet
-returns-in_err-add-clause-quiet g c =
-    let p = err_from_is_err_and c.from_residual-in_err-add.result c.from_residual-in_err-add.ensures.1 in
-    no_ok _ c.from_residual-in_err-add.result p.0 p.1
+returns-in_err-add-clause-quiet g c = no_ok_handed _ _ c.from_residual-in_err-add.result c.from_residual-in_err-add.ensures.1
 
 -- and is the space later
 pub returns-in_err-is_there-clause-later : goal.returns-in_err-is_there-clause-later

@@ -14,8 +14,7 @@ use Rattle.sg_objects.proofs.Forgetting.{no_table}
 use Rattle.sg_objects.proofs.Putting.{can_put_back, undo_over_done}
 use Rattle.sg_objects.proofs.Shaping.{del_shapes}
 use Rattle.sg_objects.proofs.Reshaping.{put_back_shape}
-use Rattle.std.proofs.lemmas.Result.{err_from_is_err_and}
-use Rattle.sg_objects.proofs.Counting.{went, went_then, counts_ok, counts_then, counts_err, counts_broken, few_none, few_from}
+use Rattle.sg_objects.proofs.Counting.{went, went_then, counts_ok, counts_then, counts_broken, few_none, few_from, counts_handed}
 use Rattle.sg_objects.proofs.put.undo_over.Goals as goal
 
 pub broken-requires : goal.broken-requires
@@ -78,16 +77,14 @@ returns-in_ok-put-in-Ok-clause-splits g c = record {
 -- how often it failed
 pub returns-in_err-root_of-clause-counts : goal.returns-in_err-root_of-clause-counts
 returns-in_err-root_of-clause-counts g c =
-    let p = err_from_is_err_and c.from_residual.result c.from_residual.ensures.1 in
-    counts_err c.from_residual.result _ p.0 p.1 p.2 (c.in_err-root_of.ensures.counts)
+    counts_handed c.from_residual.result _ c.from_residual.ensures.1 (c.in_err-root_of.ensures.counts)
 
 pub returns-in-Err-clause-counts : goal.returns-in-Err-clause-counts
 returns-in-Err-clause-counts g c = counts_then (went c.in_ok-root_of.ensures.counts) (counts_broken _ c.broken.ensures.answer c.broken.ensures.told c.broken.ensures.risen c.broken.ensures.rising)
 
 pub returns-in_err-put-in-Ok-clause-counts : goal.returns-in_err-put-in-Ok-clause-counts
 returns-in_err-put-in-Ok-clause-counts g c =
-    let p = err_from_is_err_and c.from_residual-in_err-put-in-Ok.result c.from_residual-in_err-put-in-Ok.ensures.1 in
-    counts_err c.from_residual-in_err-put-in-Ok.result _ p.0 p.1 p.2 (counts_then (went c.in_ok-root_of.ensures.counts) c.in_err-put-in-Ok.ensures.counts)
+    counts_handed c.from_residual-in_err-put-in-Ok.result _ c.from_residual-in_err-put-in-Ok.ensures.1 (counts_then (went c.in_ok-root_of.ensures.counts) c.in_err-put-in-Ok.ensures.counts)
 
 pub returns-in_ok-put-in-Ok-clause-counts : goal.returns-in_ok-put-in-Ok-clause-counts
 returns-in_ok-put-in-Ok-clause-counts g c = counts_ok _ (went_then (went c.in_ok-root_of.ensures.counts) (went c.in_ok-put-in-Ok.ensures.counts))

@@ -11,9 +11,8 @@ use Rattle.sg_objects.proofs.Located.{still_contents}
 use Rattle.sg_objects.proofs.Doing.{refused_did}
 use Rattle.sg_objects.proofs.Tables.{table_there, deleted_none, deleted_done}
 use Rattle.sg_objects.proofs.Bodies.{from_start, noted_some}
-use Rattle.std.proofs.lemmas.Result.{err_from_is_err_and}
 use Rattle.sg_reading.specs.Back.Undoing.{WasOver}
-use Rattle.sg_objects.proofs.Counting.{went, went_then, counts_ok, counts_then, counts_err, no_ok, few_none, few_from}
+use Rattle.sg_objects.proofs.Counting.{went, went_then, counts_ok, counts_then, few_none, few_from, no_ok_handed, counts_handed}
 use Rattle.sg_objects.proofs.table.del.Goals as goal
 use Rattle.sg_objects.proofs.Shaping.{del_shapes}
 
@@ -129,21 +128,18 @@ returns-in_ok-del-in-Ok-clause-splits g c = record {
 -- how often it failed
 pub returns-in_err-reason-clause-counts : goal.returns-in_err-reason-clause-counts
 returns-in_err-reason-clause-counts g c =
-    let p = err_from_is_err_and c.from_residual.result c.from_residual.ensures.1 in
-    counts_err c.from_residual.result _ p.0 p.1 p.2 (c.in_err-reason.ensures.counts)
+    counts_handed c.from_residual.result _ c.from_residual.ensures.1 (c.in_err-reason.ensures.counts)
 
 pub returns-in-Err-clause-counts : goal.returns-in-Err-clause-counts
 returns-in-Err-clause-counts g c = counts_ok _ (went c.in_ok-reason.ensures.counts)
 
 pub returns-in_err-sought-in-Ok-clause-counts : goal.returns-in_err-sought-in-Ok-clause-counts
 returns-in_err-sought-in-Ok-clause-counts g c =
-    let p = err_from_is_err_and c.from_residual-in_err-sought-in-Ok.result c.from_residual-in_err-sought-in-Ok.ensures.1 in
-    counts_err c.from_residual-in_err-sought-in-Ok.result _ p.0 p.1 p.2 (counts_then (went c.in_ok-reason.ensures.counts) c.in_err-sought-in-Ok.ensures.counts)
+    counts_handed c.from_residual-in_err-sought-in-Ok.result _ c.from_residual-in_err-sought-in-Ok.ensures.1 (counts_then (went c.in_ok-reason.ensures.counts) c.in_err-sought-in-Ok.ensures.counts)
 
 pub returns-in_err-del-in-Ok-clause-counts : goal.returns-in_err-del-in-Ok-clause-counts
 returns-in_err-del-in-Ok-clause-counts g c =
-    let p = err_from_is_err_and c.from_residual-in_err-del-in-Ok.result c.from_residual-in_err-del-in-Ok.ensures.1 in
-    counts_err c.from_residual-in_err-del-in-Ok.result _ p.0 p.1 p.2 (counts_then (went_then (went c.in_ok-reason.ensures.counts) (went c.in_ok-sought-in-Ok.ensures.counts)) c.in_err-del-in-Ok.ensures.counts)
+    counts_handed c.from_residual-in_err-del-in-Ok.result _ c.from_residual-in_err-del-in-Ok.ensures.1 (counts_then (went_then (went c.in_ok-reason.ensures.counts) (went c.in_ok-sought-in-Ok.ensures.counts)) c.in_err-del-in-Ok.ensures.counts)
 
 pub returns-in_default-clause-counts : goal.returns-in_default-clause-counts
 returns-in_default-clause-counts g c = counts_ok _ (went_then (went c.in_ok-reason.ensures.counts) (went c.in_ok-sought-in-Ok.ensures.counts))
@@ -201,49 +197,31 @@ returns-in_ok-del-in-Ok-clause-quiet g c = λ e. absurd (noted_some c.args.name 
 
 -- nothing is said of a result where there is none
 pub returns-in_err-reason-clause-did : goal.returns-in_err-reason-clause-did
-returns-in_err-reason-clause-did g c =
-    let p = err_from_is_err_and c.from_residual.result c.from_residual.ensures.1 in
-    no_ok _ c.from_residual.result p.0 p.1
+returns-in_err-reason-clause-did g c = no_ok_handed _ _ c.from_residual.result c.from_residual.ensures.1
 
 pub returns-in_err-reason-clause-splits : goal.returns-in_err-reason-clause-splits
-returns-in_err-reason-clause-splits g c =
-    let p = err_from_is_err_and c.from_residual.result c.from_residual.ensures.1 in
-    no_ok _ c.from_residual.result p.0 p.1
+returns-in_err-reason-clause-splits g c = no_ok_handed _ _ c.from_residual.result c.from_residual.ensures.1
 
 pub returns-in_err-reason-clause-quiet : goal.returns-in_err-reason-clause-quiet
-returns-in_err-reason-clause-quiet g c =
-    let p = err_from_is_err_and c.from_residual.result c.from_residual.ensures.1 in
-    no_ok _ c.from_residual.result p.0 p.1
+returns-in_err-reason-clause-quiet g c = no_ok_handed _ _ c.from_residual.result c.from_residual.ensures.1
 
 pub returns-in_err-sought-in-Ok-clause-did : goal.returns-in_err-sought-in-Ok-clause-did
-returns-in_err-sought-in-Ok-clause-did g c =
-    let p = err_from_is_err_and c.from_residual-in_err-sought-in-Ok.result c.from_residual-in_err-sought-in-Ok.ensures.1 in
-    no_ok _ c.from_residual-in_err-sought-in-Ok.result p.0 p.1
+returns-in_err-sought-in-Ok-clause-did g c = no_ok_handed _ _ c.from_residual-in_err-sought-in-Ok.result c.from_residual-in_err-sought-in-Ok.ensures.1
 
 pub returns-in_err-sought-in-Ok-clause-splits : goal.returns-in_err-sought-in-Ok-clause-splits
-returns-in_err-sought-in-Ok-clause-splits g c =
-    let p = err_from_is_err_and c.from_residual-in_err-sought-in-Ok.result c.from_residual-in_err-sought-in-Ok.ensures.1 in
-    no_ok _ c.from_residual-in_err-sought-in-Ok.result p.0 p.1
+returns-in_err-sought-in-Ok-clause-splits g c = no_ok_handed _ _ c.from_residual-in_err-sought-in-Ok.result c.from_residual-in_err-sought-in-Ok.ensures.1
 
 pub returns-in_err-sought-in-Ok-clause-quiet : goal.returns-in_err-sought-in-Ok-clause-quiet
-returns-in_err-sought-in-Ok-clause-quiet g c =
-    let p = err_from_is_err_and c.from_residual-in_err-sought-in-Ok.result c.from_residual-in_err-sought-in-Ok.ensures.1 in
-    no_ok _ c.from_residual-in_err-sought-in-Ok.result p.0 p.1
+returns-in_err-sought-in-Ok-clause-quiet g c = no_ok_handed _ _ c.from_residual-in_err-sought-in-Ok.result c.from_residual-in_err-sought-in-Ok.ensures.1
 
 pub returns-in_err-del-in-Ok-clause-did : goal.returns-in_err-del-in-Ok-clause-did
-returns-in_err-del-in-Ok-clause-did g c =
-    let p = err_from_is_err_and c.from_residual-in_err-del-in-Ok.result c.from_residual-in_err-del-in-Ok.ensures.1 in
-    no_ok _ c.from_residual-in_err-del-in-Ok.result p.0 p.1
+returns-in_err-del-in-Ok-clause-did g c = no_ok_handed _ _ c.from_residual-in_err-del-in-Ok.result c.from_residual-in_err-del-in-Ok.ensures.1
 
 pub returns-in_err-del-in-Ok-clause-splits : goal.returns-in_err-del-in-Ok-clause-splits
-returns-in_err-del-in-Ok-clause-splits g c =
-    let p = err_from_is_err_and c.from_residual-in_err-del-in-Ok.result c.from_residual-in_err-del-in-Ok.ensures.1 in
-    no_ok _ c.from_residual-in_err-del-in-Ok.result p.0 p.1
+returns-in_err-del-in-Ok-clause-splits g c = no_ok_handed _ _ c.from_residual-in_err-del-in-Ok.result c.from_residual-in_err-del-in-Ok.ensures.1
 
 pub returns-in_err-del-in-Ok-clause-quiet : goal.returns-in_err-del-in-Ok-clause-quiet
-returns-in_err-del-in-Ok-clause-quiet g c =
-    let p = err_from_is_err_and c.from_residual-in_err-del-in-Ok.result c.from_residual-in_err-del-in-Ok.ensures.1 in
-    no_ok _ c.from_residual-in_err-del-in-Ok.result p.0 p.1
+returns-in_err-del-in-Ok-clause-quiet g c = no_ok_handed _ _ c.from_residual-in_err-del-in-Ok.result c.from_residual-in_err-del-in-Ok.ensures.1
 
 -- and is the space later
 pub returns-in_err-reason-clause-later : goal.returns-in_err-reason-clause-later

@@ -8,8 +8,7 @@ use Rattle.sg_objects.proofs.Located.{still_contents}
 use Rattle.sg_objects.proofs.Doing.{refused_did}
 use Rattle.sg_objects.proofs.Tables.{table_there, found_none, found_some}
 use Rattle.sg_objects.proofs.Bodies.{from_start}
-use Rattle.std.proofs.lemmas.Result.{err_from_is_err_and}
-use Rattle.sg_objects.proofs.Counting.{went, went_then, counts_ok, counts_then, counts_err, no_ok}
+use Rattle.sg_objects.proofs.Counting.{went, went_then, counts_ok, counts_then, no_ok_handed, counts_handed}
 use Rattle.sg_objects.proofs.table.find.Goals as goal
 
 pub returns-in-Err-clause-did : goal.returns-in-Err-clause-did
@@ -73,16 +72,14 @@ returns-in-Some-clause-later g c = let then = g.met.P.PageSpace.later_then _ in 
 -- how often it failed
 pub returns-in_err-reason-clause-counts : goal.returns-in_err-reason-clause-counts
 returns-in_err-reason-clause-counts g c =
-    let p = err_from_is_err_and c.from_residual.result c.from_residual.ensures.1 in
-    counts_err c.from_residual.result _ p.0 p.1 p.2 (c.in_err-reason.ensures.counts)
+    counts_handed c.from_residual.result _ c.from_residual.ensures.1 (c.in_err-reason.ensures.counts)
 
 pub returns-in-Err-clause-counts : goal.returns-in-Err-clause-counts
 returns-in-Err-clause-counts g c = counts_ok _ (went c.in_ok-reason.ensures.counts)
 
 pub returns-in_err-sought-in-Ok-clause-counts : goal.returns-in_err-sought-in-Ok-clause-counts
 returns-in_err-sought-in-Ok-clause-counts g c =
-    let p = err_from_is_err_and c.from_residual-in_err-sought-in-Ok.result c.from_residual-in_err-sought-in-Ok.ensures.1 in
-    counts_err c.from_residual-in_err-sought-in-Ok.result _ p.0 p.1 p.2 (counts_then (went c.in_ok-reason.ensures.counts) c.in_err-sought-in-Ok.ensures.counts)
+    counts_handed c.from_residual-in_err-sought-in-Ok.result _ c.from_residual-in_err-sought-in-Ok.ensures.1 (counts_then (went c.in_ok-reason.ensures.counts) c.in_err-sought-in-Ok.ensures.counts)
 
 pub returns-in_default-clause-counts : goal.returns-in_default-clause-counts
 returns-in_default-clause-counts g c = counts_ok _ (went_then (went c.in_ok-reason.ensures.counts) (went c.in_ok-sought-in-Ok.ensures.counts))
@@ -127,24 +124,16 @@ returns-in-Some-clause-looks g c = record { writes = record { only_disk = tt; re
 
 -- nothing is said of a result where there is none
 pub returns-in_err-reason-clause-did : goal.returns-in_err-reason-clause-did
-returns-in_err-reason-clause-did g c =
-    let p = err_from_is_err_and c.from_residual.result c.from_residual.ensures.1 in
-    no_ok _ c.from_residual.result p.0 p.1
+returns-in_err-reason-clause-did g c = no_ok_handed _ _ c.from_residual.result c.from_residual.ensures.1
 
 pub returns-in_err-reason-clause-quiet : goal.returns-in_err-reason-clause-quiet
-returns-in_err-reason-clause-quiet g c =
-    let p = err_from_is_err_and c.from_residual.result c.from_residual.ensures.1 in
-    no_ok _ c.from_residual.result p.0 p.1
+returns-in_err-reason-clause-quiet g c = no_ok_handed _ _ c.from_residual.result c.from_residual.ensures.1
 
 pub returns-in_err-sought-in-Ok-clause-did : goal.returns-in_err-sought-in-Ok-clause-did
-returns-in_err-sought-in-Ok-clause-did g c =
-    let p = err_from_is_err_and c.from_residual-in_err-sought-in-Ok.result c.from_residual-in_err-sought-in-Ok.ensures.1 in
-    no_ok _ c.from_residual-in_err-sought-in-Ok.result p.0 p.1
+returns-in_err-sought-in-Ok-clause-did g c = no_ok_handed _ _ c.from_residual-in_err-sought-in-Ok.result c.from_residual-in_err-sought-in-Ok.ensures.1
 
 pub returns-in_err-sought-in-Ok-clause-quiet : goal.returns-in_err-sought-in-Ok-clause-quiet
-returns-in_err-sought-in-Ok-clause-quiet g c =
-    let p = err_from_is_err_and c.from_residual-in_err-sought-in-Ok.result c.from_residual-in_err-sought-in-Ok.ensures.1 in
-    no_ok _ c.from_residual-in_err-sought-in-Ok.result p.0 p.1
+returns-in_err-sought-in-Ok-clause-quiet g c = no_ok_handed _ _ c.from_residual-in_err-sought-in-Ok.result c.from_residual-in_err-sought-in-Ok.ensures.1
 
 -- and is the space later
 pub returns-in_err-reason-clause-later : goal.returns-in_err-reason-clause-later
